@@ -34,8 +34,8 @@ MISTAKES = {
     ),
     "what a called function reads is left out as dead": (
         "flow.py",
-        "return behind if step.callee is None else live[step.callee] | behind & kept",
-        "return behind if step.callee is None else behind & kept",
+        "behind = 0 if step.callee is None else live[step.callee]",
+        "behind = 0",
     ),
     "a high product loses a carry": ("helpers.py", "    shr 2 1 3\n    add X X 2\n", "    shr 2 1 3\n"),
     "a loop begins with what its first round knows": (

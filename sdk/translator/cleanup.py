@@ -3,7 +3,6 @@
 from .code import (
     FAULTING,
     FIELDS,
-    KEPT,
     OPPOSITES,
     ZERO,
     changes,
@@ -42,9 +41,8 @@ def without_dead(items):
     """Without the instructions whose result nobody reads, and without those that do nothing."""
     steps, code = steps_of(items), instructions_of(items)
     set_up = mask(*(one.d for one in code if one.source == "setup" and one.op == "const"))
-    kept = KEPT | set_up
-    live = live_before(steps, kept)
-    dead = {place for place, one in enumerate(code) if is_dead(one, live_behind(steps[place], live, kept), set_up)}
+    live = live_before(steps)
+    dead = {place for place, one in enumerate(code) if is_dead(one, live_behind(steps[place], live), set_up)}
     return without(items, dead)
 
 

@@ -5,6 +5,7 @@ import struct
 
 import formats
 
+from . import flow
 from .flow import Step, mask
 
 NUMBERS = {name: number for number, (name, _, _) in formats.OPERATIONS.items()}
@@ -93,14 +94,16 @@ def steps_of(items):
 def step_of(number, one, places, count):
     following = [place for place in successors(number, one, places) if place < count]
     if one.op == "ret":
-        return Step(mask(0, 1) | KEPT | mask(FIRST_SPARE), 0, [])
+        return Step(mask(0, 1) | KEPT | mask(FIRST_SPARE), 0, [], flow.RETURN)
     if one.op not in ("call", "jump") or one.callee == "setup":
         return Step(reads(one), writes(one), following)
     if one.callee == "helper":
         return Step(SPARES, SPARES, following)
+    if one.callee == "pointer" and one.op == "jump":
+        return Step(ALL, 0, [])
     if one.callee == "pointer":
-        return Step(ARGUMENTS | KEPT | mask(FIRST_SPARE), changes(one), following) if one.op == "call" else Step(ALL, 0, [])
-    return Step(0, 0, following, places[one.imm] if one.op == "call" else None)
+        return Step(ARGUMENTS | KEPT | mask(FIRST_SPARE), changes(one), following, flow.CALL)
+    return Step(0, 0, following, flow.CALL, places[one.imm]) if one.op == "call" else Step(0, 0, following)
 
 
 def text_of(items, head, comments=None):

@@ -3,8 +3,10 @@
 import collections
 import functools
 
-# What a step of code reads and writes, the numbers of those that may follow it, and the first step of the function that it calls.
-Step = collections.namedtuple("Step", "reads writes successors callee", defaults=(None,))
+# What a step of code reads and writes, and the numbers of those that may follow it. A call may have the first step of the function that
+# it calls; its successor is the step behind it.
+Step = collections.namedtuple("Step", "reads writes successors kind callee", defaults=("", None))
+CALL, RETURN = "call", "return"
 
 
 @functools.cache
@@ -12,24 +14,29 @@ def mask(*registers):
     return sum(1 << register for register in set(registers))
 
 
-def live_before(steps, kept):
-    """The registers whose values are read later, in front of each step. A call leaves the registers `kept` as they were, and may
-    leave anything in the others."""
-    live = [0] * len(steps)
+def live_before(steps):
+    """The registers whose values are read later, in front of each step. A function may leave any register as it was, and its caller
+    may know that: so what is read behind some call is read behind each return."""
+    live, behind_calls = [0] * len(steps), 0
     is_changed = True
     while is_changed:
         is_changed = False
         for number in range(len(steps) - 1, -1, -1):
             step = steps[number]
-            found = live_behind(step, live, kept) & ~step.writes | step.reads
+            behind = live_behind(step, live)
+            if step.kind == CALL:
+                behind_calls |= behind
+            elif step.kind == RETURN:
+                behind |= behind_calls
+            found = behind & ~step.writes | step.reads
             if found != live[number]:
                 live[number], is_changed = found, True
     return live
 
 
-def live_behind(step, live, kept):
+def live_behind(step, live):
     """The registers that are read behind a step, or by the function that it calls."""
-    behind = 0
+    behind = 0 if step.callee is None else live[step.callee]
     for successor in step.successors:
         behind |= live[successor]
-    return behind if step.callee is None else live[step.callee] | behind & kept
+    return behind

@@ -6,7 +6,7 @@ import struct
 
 from . import Refused
 from .elf import FUNCTION
-from .flow import Step, live_before, mask
+from .flow import CALL, RETURN, Step, live_before, mask
 
 RA, SP = 1, 2
 ARGUMENTS, RESULTS = range(10, 16), (10, 11)
@@ -177,7 +177,7 @@ class Program:
         """The registers that are read later, in front of each address."""
         number = {address: place for place, address in enumerate(self.code)}
         steps = [self.step(address, one, number) for address, one in self.code.items()]
-        return dict(zip(self.code, live_before(steps, KEPT)))
+        return dict(zip(self.code, live_before(steps)))
 
     def step(self, address, one, number):
         successors = [number[to] for to in self.following(address, one) if to in number]
@@ -185,7 +185,7 @@ class Program:
             takes, gives = SYSTEM_CALLS[one.imm]
             return Step(mask(*ARGUMENTS[:takes]), mask(*ARGUMENTS[:gives]), successors)
         if one.name == "jal" and one.rd == RA:
-            return Step(0, 0, successors, number[one.imm])
+            return Step(0, 0, successors, CALL, number[one.imm])
         if one.name == "jalr":
             return self.indirect_step(address, one, successors, number)
         writes = mask(one.rd) & ~1 if one.rd else 0
@@ -193,13 +193,13 @@ class Program:
 
     def indirect_step(self, address, one, successors, number):
         if one.rd == 0 and one.rs1 == RA:
-            return Step(mask(*RESULTS) | KEPT, 0, [])
+            return Step(mask(*RESULTS) | KEPT, 0, [], RETURN)
         target = self.far_target(address, one)
         if target is not None:
-            return Step(0, 0, successors, number[target]) if one.rd else Step(0, 0, [number[target]])
+            return Step(0, 0, successors, CALL, number[target]) if one.rd else Step(0, 0, [number[target]])
         if one.rd == 0:  # a function, or a place of this one
             return Step(ALL, 0, [])
-        return Step(mask(one.rs1, *ARGUMENTS) | KEPT, mask(*ARGUMENTS, 5, 6, 7), successors)
+        return Step(mask(one.rs1, *ARGUMENTS) | KEPT, mask(*ARGUMENTS, 5, 6, 7), successors, CALL)
 
     def far_target(self, address, one):
         """The target of a jalr whose register the instruction before it loads, or None."""

@@ -359,8 +359,8 @@ bne r5 r2 L203
 # sha1_end sha1.c:99
 loadw r9 r11 16
 loadw r10 r11 12
-const r2 24
-add r11 r11 r2
+const r4 24
+add r11 r11 r4
 ret
 L220:
 # take sdk/runtime/entry.c:13

@@ -302,8 +302,8 @@ L194:
 # check pin_ta.c:100
 const r13 12
 add r1 r11 r13
-const r2 8
-add r0 r11 r2
+const r3 8
+add r0 r11 r3
 call L136
 move r5 r0
 # check pin_ta.c:101

@@ -106,8 +106,8 @@ const r14 1
 add r0 r0 r14
 const r13 4
 shr r5 r5 r13
-const r2 8
-add r4 r4 r2
+const r6 8
+add r4 r4 r6
 jump L43
 L56:
 # give sdk/runtime/entry.c:37
