@@ -60,14 +60,14 @@ class Fault(Exception):
         self.word = word
 
 
-def ran(command, seconds=60, text=None):
+def ran(command, seconds=60, text=None, folder=None):
     """What a command has printed, or None where it fails or takes more seconds of a processor."""
 
     def limit():
         resource.setrlimit(resource.RLIMIT_CPU, (seconds, seconds))
 
     command = [str(word) for word in command]
-    done = subprocess.run(command, input=text, capture_output=True, text=True, preexec_fn=limit, check=False)
+    done = subprocess.run(command, input=text, cwd=folder, capture_output=True, text=True, preexec_fn=limit, check=False)
     return done.stdout if done.returncode == 0 else None
 
 
@@ -174,7 +174,7 @@ def write_source(number, source):
         sizes = f"--max-funcs {functions} --max-block-depth {blocks} --max-expr-complexity {expressions}"
         narrow = "--no-longlong" if number // len(LEVELS) % 2 else ""
         words = f"{OPTIONS} {sizes} {narrow} --seed {number} -o {source}".split()
-        if ran(["csmith", *words], SECONDS) is None:
+        if ran(["csmith", *words], SECONDS, folder=source.parent) is None:  # which leaves a file there
             raise Fault("unwritten")
 
 

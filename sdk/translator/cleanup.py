@@ -1,6 +1,7 @@
 """What is left out of the code again: numbers that are there already, what nobody reads, and jumps that go nowhere."""
 
 from .code import (
+    ENDING_CALLS,
     FAULTING,
     FIELDS,
     OPPOSITES,
@@ -59,31 +60,35 @@ def with_shorter_jumps(items):
     be reached isn't there."""
     made, place = [], 0
     while place < len(items):
-        one, behind = items[place], items[place + 1 : place + 3]
-        place += 1
-        if is_label(one):
+        one, count = shortened(items, place)
+        place += count
+        if one is not None:
             made.append(one)
-        elif one.op in OPPOSITES and len(behind) == 2 and is_jump(behind[0]) and behind[1] == one.imm:
-            made.append(one._replace(op=OPPOSITES[one.op], imm=behind[0].imm))
-            place += 1
-        elif one.op == "call" and one.callee in ("", "pointer") and behind and not is_label(behind[0]) and behind[0].op == "ret":
-            made.append(one._replace(op="jump"))
-            place += 1
-        elif has_target(one) and one.op != "call" and goes_on_at(one.imm, items, place):
-            continue
-        else:
-            made.append(one)
-            place = place if one.op in OPPOSITES or is_label(one) or not is_end(one) else next_label(items, place)
+            place = next_label(items, place) if is_end(one) else place
     return made
 
 
-def is_jump(item):
-    return not is_label(item) and item.op == "jump" and not item.callee
+def shortened(items, place):
+    """What stands for the first items from a place on, None for nothing, and for how many."""
+    one, behind = items[place], items[place + 1 : place + 3]
+    if is_label(one):
+        return one, 1
+    if one.op in OPPOSITES and len(behind) == 2 and is_op(behind[0], "jump", "") and behind[1] == one.imm:
+        return one._replace(op=OPPOSITES[one.op], imm=behind[0].imm), 2
+    if is_op(one, "call", "", "pointer") and behind and is_op(behind[0], "ret", ""):
+        return one._replace(op="jump"), 2
+    if has_target(one) and one.op != "call" and goes_on_at(one.imm, items, place + 1):
+        return None, 1
+    return one, 1
+
+
+def is_op(item, op, *callees):
+    return not is_label(item) and item.op == op and item.callee in callees
 
 
 def is_end(one):
-    """Whether nothing comes behind an instruction."""
-    return one.op in ("jump", "ret") or one.op == "sys" and one.imm in (0, 1)
+    """Whether an item is an instruction behind which nothing comes."""
+    return not is_label(one) and (one.op in ("jump", "ret") or one.op == "sys" and one.imm in ENDING_CALLS)
 
 
 def next_label(items, place):

@@ -7,6 +7,7 @@ import formats
 
 from . import flow
 from .flow import Step, mask
+from .riscv import ENDING_CALLS, SYSTEM_CALLS
 
 NUMBERS = {name: number for number, (name, _, _) in formats.OPERATIONS.items()}
 FIELDS = {name: fields for name, fields, _ in formats.OPERATIONS.values()}
@@ -22,9 +23,6 @@ ALL, SPARES = 0xFFFF, mask(FIRST_SPARE, SECOND_SPARE)
 ARGUMENTS = mask(*range(6))
 CHANGED_BY_CALLS = mask(*range(9), RETURN) | SPARES
 KEPT = 0xFFFF & ~CHANGED_BY_CALLS
-
-# Calls by number, with how many of r0 to r2 each takes and gives.
-from .riscv import ENDING_CALLS, SYSTEM_CALLS  # noqa: E402  (by the tables above)
 
 # An instruction; imm is a number or a label. `source` is the address of RISC-V that it is made of, or the name of a part that has
 # none. `callee` says what a call or a jump goes to: "" for code of the program, "setup", "helper", or "pointer", whose address

@@ -19,7 +19,8 @@ HEADER, MEMORY = SDK / "runtime/header.c", SDK / "runtime/memory.c"
 Frame = collections.namedtuple("Frame", "function file line")
 
 MACHINE = ["-march=rv32em", "-mabi=ilp32e"]
-# A word of the machine has any alignment. A function keeps what the calling convention says, and isn't parted.
+# A word of the machine has any alignment. A function isn't parted, and no caller knows more of one than the calling convention says,
+# so that more registers are free for numbers.
 CODE = "-ffreestanding -ffunction-sections -fdata-sections -fno-common -fno-jump-tables -fno-ipa-ra -fno-stack-protector".split()
 CODE += "-fno-unwind-tables -fno-asynchronous-unwind-tables -fno-reorder-blocks-and-partition".split()
 CODE += "-mno-strict-align -mtune=thead-c906".split()
