@@ -1,6 +1,6 @@
 #!/usr/bin/env python3
-"""Tries the API: an application that calls all of it, what ends in a panic and at which line, and that what isn't served is
-refused by its name when it is compiled, and by the linker where the program declares it itself.
+"""Tries the API: an application that calls all of it, what ends in a panic and at which line, what is warned of, and that what
+isn't served is refused by its name when it is compiled, and by the linker where the program declares it itself.
 
 Status: 0 where all is as wanted, 1 where something isn't, 2 at other words.
 usage: api.py [program=FILE]
@@ -67,6 +67,28 @@ def check_panics(report, folder, file):
         report.check(part in near, f"panic {kind} is at the line of {part}", told)
 
 
+def check_warnings(report, folder, file):
+    """Calls that are too deep, and a stack of no fixed size, are warned of; the first panic when they come."""
+    apart = "__attribute__((noinline, noclone))"
+    deep = [f"static {apart} int f{k}(int x) {{ return f{k - 1}(x + 1) * 3 + {k}; }}" for k in range(1, 70)]
+    deep = "\n".join([f"static {apart} int f0(int x) {{ return x * 5; }}", *deep, "#define random_main() (checksum = f69(checksum))"])
+    room = f"static {apart} int fill(int n) {{ volatile char room[n]; room[n - 1] = 1; return room[0]; }}"
+    room += "\n#define random_main() (checksum = fill(checksum + 5))"
+    for name, text, wanted in (("deep", deep, "calls go 70 deep"), ("room", room, "the stack of .* has no fixed size")):
+        body = (bench.TESTS / "random/application.c").read_text().replace("int random_main(void);", text)
+        (folder / f"{name}.c").write_text(body)
+        (folder / "user_ta_header_defines.h").write_text((bench.TESTS / "random/user_ta_header_defines.h").read_text())
+        done = bench.built("-o", folder / name, folder / f"{name}.c")
+        is_warned = done.returncode == 0 and re.search(f"ta_cc.py: warning: {wanted}", done.stderr)
+        report.check(is_warned, f"{name} is warned of", done.stderr[-300:])
+    uuid = "11111111-2222-3333-4444-555555555555"
+    script = folder / "deep.client"
+    lines = ["image deep deep.hex", "boot 1 2 64", f"ta {uuid} $deep", f"open s {uuid}", "invoke s 0 vio:0:0"]
+    script.write_text("\n".join([*lines, "#= invoke s SUCCESS TRUSTED_APP", ""]))
+    told = bench.played(script, file)[0][-1]
+    report.check("panic 00000004 at " in told and "deep.c:" in told, "calls that are too deep are panic 4", told)
+
+
 def check_absent(report, folder):
     (folder / "user_ta_header_defines.h").write_text((API / "user_ta_header_defines.h").read_text())
     body = (bench.TESTS / "random/application.c").read_text()
@@ -92,6 +114,7 @@ def main(words):
     with tempfile.TemporaryDirectory() as folder:
         check_served(report, pathlib.Path(folder), file)
         check_panics(report, pathlib.Path(folder), file)
+        check_warnings(report, pathlib.Path(folder), file)
         check_absent(report, pathlib.Path(folder))
     return report.end()
 
