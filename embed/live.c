@@ -298,17 +298,47 @@ static struct live_answer hear_registers(struct live *live, unsigned cpu) {
 
 /* ---- Calls. */
 
-struct live_answer live_boot(struct live *live, const struct live_core *core) {
-    say(live, "boot %u %u %u\n", core->cpus, core->threads, core->frames);
-    struct live_answer answer = hear_end(live);
-    for (size_t i = 0; i < core->application_count && answer.end == LIVE_OK; i++) {
-        say(live, "ta "), say_text(live, core->applications[i].uuid);
-        say(live, " "), say_text(live, core->applications[i].image), say(live, "\n");
-        answer = hear_end(live);
-    }
-    if (core->key == NULL || answer.end != LIVE_OK) return answer;
-    say(live, "key "), say_digits(live, core->key, 32), say(live, "\n");
+static struct live_answer say_options(struct live *live, unsigned options) {
+    if (!(options & LIVE_HISTORY_OFF)) return (struct live_answer){.end = LIVE_OK};
+    say(live, "history off\n");
     return hear_end(live);
+}
+
+static struct live_answer say_application(struct live *live, const struct live_application *application) {
+    say(live, "ta "), say_text(live, application->uuid);
+    say(live, " "), say_text(live, application->image), say(live, "\n");
+    return hear_end(live);
+}
+
+static struct live_answer say_key(struct live *live, const uint8_t *key) {
+    say(live, "key "), say_digits(live, key, 32), say(live, "\n");
+    return hear_end(live);
+}
+
+/* Says a part of a boot, of which there may be several. */
+static struct live_answer say_part(struct live *live, const struct live_core *core, enum live_part part, size_t number) {
+    switch (part) {
+    case LIVE_OF_OPTIONS:
+        return say_options(live, core->options);
+    case LIVE_OF_SIZES:
+        say(live, "boot %u %u %u\n", core->cpus, core->threads, core->frames);
+        return hear_end(live);
+    case LIVE_OF_APPLICATION:
+        return say_application(live, &core->applications[number]);
+    default:
+        return say_key(live, core->key);
+    }
+}
+
+struct live_answer live_boot(struct live *live, const struct live_core *core) {
+    const size_t counts[] = {1, 1, core->application_count, core->key != NULL};
+    struct live_answer answer = {.end = LIVE_OK};
+    for (int part = LIVE_OF_OPTIONS; part <= LIVE_OF_KEY; part++)
+        for (size_t i = 0; i < counts[part] && answer.end == LIVE_OK; i++) {
+            answer = say_part(live, core, (enum live_part)part, i);
+            answer.part = (enum live_part)part, answer.application = i;
+        }
+    return answer;
 }
 
 struct live_answer live_enter(struct live *live, unsigned cpu, uint32_t steps, const uint32_t a[8]) {

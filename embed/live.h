@@ -29,6 +29,9 @@ enum live_end {
     LIVE_OVER
 };
 
+/* What a boot says, in this order. */
+enum live_part { LIVE_OF_OPTIONS, LIVE_OF_SIZES, LIVE_OF_APPLICATION, LIVE_OF_KEY };
+
 struct live_answer {
     enum live_end end;
     /* Of live_smc and live_leave, at LIVE_OK: a0 to a7. */
@@ -40,6 +43,9 @@ struct live_answer {
     char kind[16];
     /* At LIVE_FULL. */
     uint64_t copied;
+    /* Of live_boot, at LIVE_BAD: what was refused, and at LIVE_OF_APPLICATION which one, from 0 on. */
+    enum live_part part;
+    size_t application;
 };
 
 /* An application: its UUID in the hyphenated form, and its image in hexadecimal digits, as the word `asm` prints it. Each is
@@ -48,19 +54,25 @@ struct live_application {
     const char *uuid, *image;
 };
 
+/* Options of a boot, each a line that is said before the others. A program that doesn't know one answers `bad item`. */
+enum live_option {
+    LIVE_HISTORY_OFF = 1 /* the core keeps nothing of entries and exits once they are over */
+};
+
 /* What a core is booted with. */
 struct live_core {
     unsigned cpus, threads, frames; /* 1 to 8 processors, 1 to 16 threads, 1 to 1024 pages for applications */
     const struct live_application *applications;
     size_t application_count; /* at most 16 */
     const uint8_t *key;       /* 32 bytes, or null for zeros */
+    unsigned options;         /* of live_option, 0 for none */
 };
 
 /* Starts the program of this path. Null where that fails, with the cause in errno. */
 struct live *live_open(const char *program);
 
-/* Boots the core, once and before all calls but live_watch: first its sizes, then its applications one by one, then its key.
- * Where one of these isn't taken, those before it are, and nothing behind it is said. */
+/* Boots the core, once and before all calls but live_watch: first its options, then its sizes, its applications one by one, and its
+ * key. Where one of these isn't taken, those before it are, and nothing behind it is said. */
 struct live_answer live_boot(struct live *live, const struct live_core *core);
 
 /* A processor enters with these registers, and is granted 1 to 1,000,000 steps. It stays inside. */

@@ -212,7 +212,8 @@ int main(int count, char **words) {
     for (int i = 0; i < 32; i++) key[i] = (uint8_t)(0xf0 + i);
     live = live_open(words[1]);
     if (live == NULL) return perror(words[1]), 1;
-    taken(live_boot(live, &(struct live_core){2, 2, 2, applications, 2, key}));
+    struct live_core core = {.cpus = 2, .threads = 2, .frames = 2, .applications = applications, .application_count = 2, .key = key};
+    taken(live_boot(live, &core));
 
     printf("opens\n");
     begin_open(&calls[0], 0x11);

@@ -56,10 +56,18 @@ static struct live *open_or_exit(const char *program) {
     return live;
 }
 
-/* A conversation with a core of two processors and three threads. */
+/* A core of two processors and three threads. */
+static const struct live_core usual = {.cpus = 2, .threads = 3, .frames = 4};
+
+/* A core of one processor with these applications. */
+static struct live_core core_of(const struct live_application *applications, size_t count, const uint8_t *key) {
+    return (struct live_core){.cpus = 1, .threads = 1, .frames = 1, .applications = applications, .application_count = count, .key = key};
+}
+
+/* A conversation with the usual core. */
 static struct live *opened(void) {
     struct live *live = open_or_exit(path);
-    tell("a boot", live_boot(live, &(struct live_core){2, 3, 4, NULL, 0, NULL}));
+    tell("a boot", live_boot(live, &usual));
     return live;
 }
 
@@ -89,18 +97,18 @@ static void try_boots(const char *image) {
     }
     try_boot("nine processors", (struct live_core){.cpus = 9, .threads = 1, .frames = 1});
     try_boot("no thread", (struct live_core){.cpus = 1, .threads = 0, .frames = 1});
-    try_boot("a UUID that is none", (struct live_core){1, 1, 1, &(struct live_application){"1111", image}, 1, NULL});
-    try_boot("an image that is none", (struct live_core){1, 1, 1, &(struct live_application){uuid, "00"}, 1, NULL});
-    try_boot("one application twice", (struct live_core){1, 1, 1, twice, 2, NULL});
-    try_boot("sixteen applications and a key", (struct live_core){1, 1, 1, applications, 16, key});
-    try_boot("seventeen applications", (struct live_core){1, 1, 1, applications, 17, key});
+    try_boot("a UUID that is none", core_of(&(struct live_application){"1111", image}, 1, NULL));
+    try_boot("an image that is none", core_of(&(struct live_application){uuid, "00"}, 1, NULL));
+    try_boot("one application twice", core_of(twice, 2, NULL));
+    try_boot("sixteen applications and a key", core_of(applications, 16, key));
+    try_boot("seventeen applications", core_of(applications, 17, key));
 }
 
 static void try_lines(void) {
     struct live *live = open_or_exit(path);
     ask("a call before the boot", live, 0);
-    tell("a boot", live_boot(live, &(struct live_core){2, 3, 4, NULL, 0, NULL}));
-    tell("a second boot", live_boot(live, &(struct live_core){1, 1, 1, NULL, 0, NULL}));
+    tell("a boot", live_boot(live, &usual));
+    tell("a second boot", live_boot(live, &(struct live_core){.cpus = 1, .threads = 1, .frames = 1}));
     ask("a processor that there isn't", live, 2);
     tell("no steps", live_smc(live, 0, 0, threads));
     tell("too many steps", live_smc(live, 0, 1000001, threads));
@@ -122,7 +130,7 @@ static void try_questions(void) {
     struct live *live = open_or_exit(path);
     tell("a state before the boot", live_state(live, &state));
     tell("watched", live_watch(live));
-    tell("a boot", live_boot(live, &(struct live_core){2, 3, 4, NULL, 0, NULL}));
+    tell("a boot", live_boot(live, &usual));
     tell("a write that leaves RAM", live_write(live, 0, RAM + RAM_BYTES - 1, "ab", 2));
     tell("no bytes", live_write(live, 0, 0, "", 0));
     tell("a write of the other processor", live_write(live, 1, RAM + RAM_BYTES - 1, "a", 1));
@@ -170,7 +178,8 @@ static void try_full(const char *image) {
         uint8_t *parameter = invokes + 32 + 32 * i;
         put(parameter, 8, MEMORY_IN), put(parameter + 8, 8, RAM + MOST_BYTES), put(parameter + 16, 8, MOST_BYTES);
     }
-    tell("a boot", live_boot(live, &(struct live_core){1, 1, 1, &application, 1, NULL}));
+    struct live_core one = core_of(&application, 1, NULL);
+    tell("a boot", live_boot(live, &one));
     tell("an argument", live_write(live, 0, RAM, opens, sizeof opens));
     tell("an open", live_smc(live, 0, 1000, call));
     tell("an argument", live_write(live, 0, RAM, invokes, sizeof invokes));
@@ -229,7 +238,7 @@ static struct live *open_script(const char *what, const char *commands) {
     if (file < 0 || dprintf(file, "#!/bin/sh\n%s\n", commands) < 0 || fchmod(file, 0700) || close(file)) perror(name), exit(1);
     printf("%s\n", what);
     struct live *live = open_or_exit(name);
-    tell("  a boot", live_boot(live, &(struct live_core){2, 3, 4, NULL, 0, NULL}));
+    tell("  a boot", live_boot(live, &usual));
     unlink(name);
     return live;
 }
