@@ -376,6 +376,7 @@ static bool are_bytes(const char *line, unsigned cpu, uint64_t address, uint8_t 
 
 /* Whether so many bytes from an address on lie in RAM. */
 static bool is_in_ram(uint64_t address, size_t length) {
+    if (length == 0) return true;
     return address >= RAM_START && length <= LIVE_RAM_BYTES && address - RAM_START <= LIVE_RAM_BYTES - length;
 }
 

@@ -234,7 +234,7 @@ static void try_processes(void) {
 
 static void try_turns(void) {
     uint8_t written[3] = {1, 2, 3}, read[4096];
-    struct live_source sources[LIVE_MOST_PIECES + 1] = {{RAM + 1, written, 3}, {RAM + 2, written, 1}, {RAM, "", 0}};
+    struct live_source sources[LIVE_MOST_PIECES + 1] = {{RAM + 1, written, 3}, {RAM + 2, written, 1}, {0, "", 0}};
     struct live_target targets[LIVE_MOST_PIECES + 1] = {{RAM, read, 5}, {RAM + LIVE_RAM_BYTES - 1, read + 5, 1}};
     struct live_turn turn = {1, 1, {0xb200000f}, sources, 3, targets, 2};
     struct live *live = open_or_exit(path);
