@@ -18,7 +18,7 @@ static struct core *cores;
 /* ---- Begin and end. */
 
 static void say_refusal(const struct core *core, struct live_answer answer) {
-    const struct application *application = &core->description.applications[answer.application];
+    const struct described_application *application = &core->description.applications[answer.application];
     if (answer.end != LIVE_BAD) SAY("%s: the core's program has ended, or hasn't answered in time", core->name);
     else if (answer.part == LIVE_OF_APPLICATION)
         SAY("%s:%d: the core refuses application %s: bad %s", core->name, application->line, application->uuid, answer.kind);
@@ -59,8 +59,7 @@ static TEEC_Result starts(struct core *core) {
         SAY("%s: %s", program_of(core), strerror(errno));
         return errno == ENOMEM ? TEEC_ERROR_OUT_OF_MEMORY : TEEC_ERROR_ITEM_NOT_FOUND;
     }
-    /* A sleeping caller looks after the program each half of the limit, and then waits for it as long. */
-    live_limit(core->live, core->description.limit / 2 + 1);
+    live_limit(core->live, core_third(core));
     core->lent = ram_take(&core->ram, core->description.threads), core->cancel_place = ram_take(&core->ram, 1);
     core->slots = core_slots(core);
     return boots(core);

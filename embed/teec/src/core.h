@@ -25,7 +25,7 @@ struct seat {
     struct call *call;
     uint32_t client, block;
     size_t front_bytes, block_bytes; /* that are written before it enters; of all */
-    size_t places[MOST_PARAMETERS];  /* of memory in the block */
+    size_t places[CALL_PARAMETERS];  /* of memory in the block */
     size_t shown_bytes;              /* at the front of the block, read behind each exit */
     uint8_t shown[MOST_SHOWN_OF_CALL];
     struct argument request; /* and the reply to it */
@@ -78,7 +78,10 @@ void turn_sleep(struct core *core, struct waiter *waiter, const struct timespec 
 
 bool core_is_well(struct core *core, struct live_answer answer);
 bool core_fails(struct core *core, const char *cause);
-/* Asks whether the program is there, where nobody has heard of it for a while. */
+/* A third of the limit, in milliseconds: for so long the program may be silent until it is looked after, and then it may take as long to
+ * answer. The last third is for threads to come to their turn. */
+unsigned core_third(const struct core *core);
+/* Looks after the program, where it has been silent for so long. */
 void core_checks(struct core *core);
 bool core_reads(struct core *core, uint32_t address, void *bytes, size_t length);
 bool core_writes(struct core *core, uint32_t address, const void *bytes, size_t length);
@@ -116,6 +119,6 @@ void shared_end(struct core *core, struct shared *shared, uint32_t client);
 /* The number by which the core knows it. */
 uint32_t shared_cookie(const struct shared *shared);
 /* Copies between shared memory and the pages that stand for it, and says whether the conversation goes on. */
-bool shared_copies(struct core *core, const struct memory *memory, size_t size, bool is_in);
+bool shared_copies(struct core *core, const struct memref *memory, size_t size, bool is_in);
 
 #endif

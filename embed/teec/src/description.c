@@ -132,7 +132,7 @@ static const char *take_image(struct reading *reading, char **words) {
 static const char *take_ta(struct reading *reading, char **words) {
     struct description *to = reading->description;
     if (to->application_count == MOST_APPLICATIONS) return "too many applications";
-    struct application *application = &to->applications[to->application_count];
+    struct described_application *application = &to->applications[to->application_count];
     if (!takes_uuid(words[1], application->uuid)) return "a UUID that isn't of its form";
     if (description_application(to, application->uuid)) return "a second application of this UUID";
     const char *digits = words[2][0] == '$' ? digits_of(reading, words[2] + 1) : words[2];
@@ -242,7 +242,7 @@ void description_free(struct description *description) {
     free(description->program), free(description->files);
 }
 
-const struct application *description_application(const struct description *description, const char *uuid) {
+const struct described_application *description_application(const struct description *description, const char *uuid) {
     for (size_t i = 0; i < description->application_count; i++)
         if (strcmp(uuid, description->applications[i].uuid) == 0) return &description->applications[i];
     return NULL;

@@ -8,7 +8,7 @@
 
 enum { MOST_APPLICATIONS = 16, MOST_THREADS = 16 };
 
-struct application {
+struct described_application {
     char uuid[37];
     char *image; /* hexadecimal digits */
     int line;    /* of the description */
@@ -17,7 +17,7 @@ struct application {
 
 struct description {
     unsigned cpus, threads, frames;
-    struct application applications[MOST_APPLICATIONS];
+    struct described_application applications[MOST_APPLICATIONS];
     size_t application_count;
     bool has_key;
     uint8_t key[32];
@@ -32,6 +32,6 @@ struct description {
 TEEC_Result description_read(struct description *description, const char *path);
 void description_free(struct description *description);
 /* The application of a UUID in the hyphenated form, or null. */
-const struct application *description_application(const struct description *description, const char *uuid);
+const struct described_application *description_application(const struct description *description, const char *uuid);
 
 #endif

@@ -81,7 +81,7 @@ TEEC_Result login_octets(uint32_t method, const void *data, uint8_t octets[16]) 
     }
 }
 
-void uuid_octets(const TEEC_UUID *uuid, uint8_t octets[16]) {
+void octets_of_uuid(const TEEC_UUID *uuid, uint8_t octets[16]) {
     for (int i = 0; i < 4; i++) octets[i] = (uint8_t)(uuid->timeLow >> (24 - 8 * i));
     octets[4] = (uint8_t)(uuid->timeMid >> 8), octets[5] = (uint8_t)uuid->timeMid;
     octets[6] = (uint8_t)(uuid->timeHiAndVersion >> 8), octets[7] = (uint8_t)uuid->timeHiAndVersion;

@@ -10,7 +10,7 @@ static bool takes_temporary(struct call *call, uint32_t i, uint32_t type, const 
     if (reference->buffer == NULL && reference->size > 0) return false;
     call->argument.parameters[i].attr = type - TEEC_MEMREF_TEMP_INPUT + ATTR_TMEM;
     call->argument.parameters[i].q = reference->size;
-    call->memory[i] = (struct memory){.host = reference->buffer,
+    call->memory[i] = (struct memref){.host = reference->buffer,
                                       .size = reference->size,
                                       .is_in = type != TEEC_MEMREF_TEMP_OUTPUT,
                                       .is_out = type != TEEC_MEMREF_TEMP_INPUT};
@@ -38,9 +38,9 @@ static bool takes_shared(struct call *call, uint32_t i, uint32_t type, const TEE
     bool is_null = shared->size == 0;
     call->argument.parameters[i].attr = (is_null ? ATTR_TMEM : ATTR_RMEM) + part.flags - TEEC_MEM_INPUT;
     call->argument.parameters[i].p = part.offset, call->argument.parameters[i].q = part.size;
-    call->memory[i] = (struct memory){.is_out = part.flags & TEEC_MEM_OUTPUT};
+    call->memory[i] = (struct memref){.is_out = part.flags & TEEC_MEM_OUTPUT};
     if (is_null) return true;
-    call->memory[i] = (struct memory){.host = shared->host + part.offset,
+    call->memory[i] = (struct memref){.host = shared->host + part.offset,
                                       .size = part.size,
                                       .is_in = part.flags & TEEC_MEM_INPUT,
                                       .is_out = part.flags & TEEC_MEM_OUTPUT,
@@ -88,7 +88,7 @@ bool operation_takes(struct call *call, const TEEC_Operation *operation, find_sh
 }
 
 void operation_gives(struct call *call) {
-    for (int i = 0; i < MOST_PARAMETERS; i++)
+    for (int i = 0; i < CALL_PARAMETERS; i++)
         if (call->memory[i].shared) call->memory[i].shared->users--;
 }
 

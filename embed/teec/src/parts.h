@@ -12,7 +12,7 @@
 
 /* ---- Calls, between the API (teec.c) and what serves it. Numbers are those of optee_msg.h. */
 
-enum { MOST_PARAMETERS = 6, HEAD_BYTES = 32, PARAMETER_BYTES = 32 };
+enum { CALL_PARAMETERS = 6, HEAD_BYTES = 32, PARAMETER_BYTES = 32 };
 /* Bytes of one parameter, and of all shared memory: no block is larger than RAM. */
 enum { MOST_MEMORY = 65536, MOST_SHARED = 4 << 20 };
 enum { CMD_OPEN, CMD_INVOKE, CMD_CLOSE, CMD_CANCEL, CMD_REGISTER, CMD_UNREGISTER };
@@ -24,7 +24,7 @@ struct argument {
     uint32_t cmd, func, session, cancel_id, pad, ret, origin, count;
     struct {
         uint64_t attr, p, q, s;
-    } parameters[MOST_PARAMETERS];
+    } parameters[CALL_PARAMETERS];
 };
 
 /* A block of shared memory. */
@@ -39,7 +39,7 @@ struct shared {
 };
 
 /* Memory of a parameter: the host's bytes, or null for the null reference. */
-struct memory {
+struct memref {
     uint8_t *host;
     size_t size;
     bool is_in, is_out;
@@ -49,7 +49,8 @@ struct memory {
 
 struct call {
     struct argument argument;
-    struct memory memory[MOST_PARAMETERS];
+    struct memref memory[CALL_PARAMETERS];
+    uint32_t group; /* of an open by a login with a group */
     bool is_cancelled;
     struct seat *seat; /* what the call has below, while it is served */
     /* Of the API. */
@@ -83,6 +84,6 @@ void tee_behind_fork(bool is_child);
 
 /* The octets of the client's UUID, by the rules of Linux's driver for OP-TEE. */
 TEEC_Result login_octets(uint32_t method, const void *data, uint8_t octets[16]);
-void uuid_octets(const TEEC_UUID *uuid, uint8_t octets[16]);
+void octets_of_uuid(const TEEC_UUID *uuid, uint8_t octets[16]);
 
 #endif

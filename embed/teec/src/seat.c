@@ -16,7 +16,7 @@ enum { RET_OK = 0 };
 /* ---- The block. */
 
 /* Whether the memory of a parameter lies in the block. What is larger than the core takes is only named to it, and refused there. */
-static bool is_placed(const struct memory *memory) {
+static bool is_placed(const struct memref *memory) {
     return memory->host && memory->shared == NULL && memory->size <= MOST_MEMORY;
 }
 
@@ -27,7 +27,7 @@ static void lay_out(struct seat *seat) {
     seat->block_bytes = argument_bytes(call) + AREA_BYTES;
     for (int is_output = 0; is_output < 2; is_output++)
         for (uint32_t i = 0; i < call->argument.count; i++) {
-            const struct memory *memory = &call->memory[i];
+            const struct memref *memory = &call->memory[i];
             if (!is_placed(memory) || memory->is_in == is_output) continue;
             seat->places[i] = (seat->block_bytes + 7) & ~(size_t)7;
             seat->block_bytes = seat->places[i] + memory->size;
@@ -42,19 +42,19 @@ static size_t block_pages(const struct seat *seat) {
 /* Tells the argument where memory lies. */
 static void name_memory(struct seat *seat) {
     for (uint32_t i = 0; i < seat->call->argument.count; i++) {
-        const struct memory *memory = &seat->call->memory[i];
+        const struct memref *memory = &seat->call->memory[i];
         if (memory->shared) seat->call->argument.parameters[i].s = shared_cookie(memory->shared);
         else if (memory->host) seat->call->argument.parameters[i].p = seat->block + (is_placed(memory) ? seat->places[i] : 0);
     }
 }
 
 /* What is written before the call enters: its argument, and memory for input in the block. How many pieces these are. */
-static size_t gather_inputs(const struct seat *seat, struct live_source sources[1 + MOST_PARAMETERS]) {
+static size_t gather_inputs(const struct seat *seat, struct live_source sources[1 + CALL_PARAMETERS]) {
     const struct call *call = seat->call;
     size_t count = 0;
     sources[count++] = (struct live_source){seat->block, &call->argument, argument_bytes(call)};
     for (uint32_t i = 0; i < call->argument.count; i++) {
-        const struct memory *memory = &call->memory[i];
+        const struct memref *memory = &call->memory[i];
         if (!is_placed(memory) || !memory->is_in) continue;
         sources[count++] = (struct live_source){seat->block + seat->places[i], memory->host, memory->size};
     }
@@ -63,7 +63,7 @@ static size_t gather_inputs(const struct seat *seat, struct live_source sources[
 
 static bool writes_shared(struct core *core, const struct call *call) {
     for (uint32_t i = 0; i < call->argument.count; i++) {
-        const struct memory *memory = &call->memory[i];
+        const struct memref *memory = &call->memory[i];
         if (!memory->shared || !memory->is_in || memory->size > MOST_MEMORY) continue;
         if (!shared_copies(core, memory, memory->size, true)) return false;
     }
@@ -81,7 +81,7 @@ static void take_argument(struct seat *seat) {
 
 /* Takes so many bytes of a parameter's memory. */
 static bool takes_memory(struct core *core, const struct seat *seat, uint32_t i, size_t size) {
-    const struct memory *memory = &seat->call->memory[i];
+    const struct memref *memory = &seat->call->memory[i];
     if (memory->shared) return shared_copies(core, memory, size, false);
     if (seat->places[i] + size > seat->shown_bytes) return core_reads(core, seat->block + (uint32_t)seat->places[i], memory->host, size);
     if (size > 0) memcpy(memory->host, seat->shown + seat->places[i], size);
@@ -92,7 +92,7 @@ static bool takes_memory(struct core *core, const struct seat *seat, uint32_t i,
 static bool takes_outputs(struct core *core, const struct seat *seat) {
     const struct argument *argument = &seat->call->argument;
     for (uint32_t i = 0; i < argument->count && argument->origin == TEEC_ORIGIN_TRUSTED_APP; i++) {
-        const struct memory *memory = &seat->call->memory[i];
+        const struct memref *memory = &seat->call->memory[i];
         uint64_t size = argument->parameters[i].q;
         if (memory->host == NULL || !memory->is_out || size > memory->size) continue;
         if (!takes_memory(core, seat, i, (size_t)size)) return false;
@@ -128,7 +128,7 @@ static bool goes_on(struct core *core, struct seat *seat, const uint32_t r[8], s
 
 /* Enters, and serves what the call asks for up to its end. */
 static bool runs(struct core *core, struct seat *seat) {
-    struct live_source sources[1 + MOST_PARAMETERS] = {{0}}, reply = {.length = 0};
+    struct live_source sources[1 + CALL_PARAMETERS] = {{0}}, reply = {.length = 0};
     struct live_target front = {seat->block, seat->shown, seat->shown_bytes};
     struct live_turn turn = {.steps = core->description.steps,
                              .a = {CALL_WITH_RPC_ARG, 0, seat->block, 0, 0, 0, 0, seat->client},
@@ -218,7 +218,7 @@ static bool is_masked(const struct core *core, const struct live_state *state, c
     if (slot->phase != LIVE_ASKS || slot->is_masked) return true;
     for (unsigned i = 0; i < state->instance_count; i++) {
         if (state->instances[i].number != slot->instance) continue;
-        const struct application *application = description_application(&core->description, state->instances[i].uuid);
+        const struct described_application *application = description_application(&core->description, state->instances[i].uuid);
         return application == NULL || !application->can_unmask;
     }
     return true;

@@ -92,7 +92,7 @@ static size_t run_length(const struct place *place, size_t offset, size_t most) 
     return length < most ? length : most;
 }
 
-bool shared_copies(struct core *core, const struct memory *memory, size_t size, bool is_in) {
+bool shared_copies(struct core *core, const struct memref *memory, size_t size, bool is_in) {
     const struct place *place = memory->shared->place;
     for (size_t done = 0, part; done < size; done += part) {
         size_t offset = memory->offset + done;

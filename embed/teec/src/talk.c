@@ -28,11 +28,15 @@ bool core_is_well(struct core *core, struct live_answer answer) {
     }
 }
 
+unsigned core_third(const struct core *core) {
+    return (core->description.limit + 2) / 3;
+}
+
 void core_checks(struct core *core) {
     struct timespec now;
     clock_gettime(CLOCK_MONOTONIC, &now);
     long since = (now.tv_sec - core->heard.tv_sec) * 1000 + (now.tv_nsec - core->heard.tv_nsec) / 1000000;
-    if (!core->is_over && since >= (long)(core->description.limit / 2)) core_is_well(core, live_check(core->live));
+    if (!core->is_over && since >= (long)core_third(core)) core_is_well(core, live_check(core->live));
 }
 
 bool core_reads(struct core *core, uint32_t address, void *bytes, size_t length) {

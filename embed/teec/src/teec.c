@@ -253,11 +253,12 @@ static TEEC_Result name_both(struct call *call, const TEEC_UUID *destination, ui
     uint8_t octets[16];
     TEEC_Result result = login_octets(method, data, octets);
     if (result) return result;
+    if (method == TEEC_LOGIN_GROUP) memcpy(&call->group, data, sizeof call->group);
     call->argument.count = 2;
     call->argument.parameters[0].attr = call->argument.parameters[1].attr = ATTR_META | TEEC_VALUE_INPUT;
     memcpy(&call->argument.parameters[1].p, octets, sizeof octets);
     call->argument.parameters[1].s = method;
-    uuid_octets(destination, octets);
+    octets_of_uuid(destination, octets);
     memcpy(&call->argument.parameters[0].p, octets, sizeof octets);
     return TEEC_SUCCESS;
 }

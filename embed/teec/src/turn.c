@@ -91,13 +91,18 @@ static bool rests_until(struct core *core, struct waiter *waiter, const struct t
     return was_woken;
 }
 
+/* When the program is to be looked after again. */
+static struct timespec next_check(const struct core *core) {
+    struct timespec next = core->heard;
+    unsigned third = core_third(core);
+    next.tv_sec += third / 1000, next.tv_nsec += third % 1000 * 1000000L;
+    if (next.tv_nsec >= 1000000000L) next.tv_sec++, next.tv_nsec -= 1000000000L;
+    return next;
+}
+
 void turn_sleep(struct core *core, struct waiter *waiter, const struct timespec *until) {
     while (!core->is_over) {
-        struct timespec next;
-        unsigned half = core->description.limit / 2 + 1;
-        clock_gettime(CLOCK_MONOTONIC, &next);
-        next.tv_sec += half / 1000, next.tv_nsec += half % 1000 * 1000000L;
-        if (next.tv_nsec >= 1000000000L) next.tv_sec++, next.tv_nsec -= 1000000000L;
+        struct timespec next = next_check(core);
         bool is_last = until && !is_before(&next, until);
         if (rests_until(core, waiter, is_last ? until : &next) || is_last) return;
         core_checks(core);
