@@ -425,7 +425,7 @@ BAD_WORDS = {
     "client_test.py": ["", "program=no_such_file examples"],
     "known.py": [""],
     "known_live.py": ["x"],
-    "live.py": ["x", "serve serve", "program=no_such_file"],
+    "live.py": ["x", "serve serve", "program=no_such_file", "boot=no_such_file"],
     "live_test.py": ["x", "program=no_such_file"],
     "step.py": ["", "-", "- opens", "- invoke", "- invoke x", "- close vo", "- invoke 0 vi:1", "- open mi:", "- open r16=0"],
 }

@@ -8,12 +8,12 @@ Words, in any order:
                 live.py is called in
     serve       a call that asks for something is answered and resumed until it has ended: buffers are lent, files are kept in
                 memory, waits are over at once
-    notes       a line `  = TEXT` says what an answer says, as annotate.py does, and of a panic that is watched what its code is; with
-                `script` by the maps beside the images' files, at which lines of the source it comes
-The program is what `rt run` has built in crates/optee_live, or FILE.
+    notes       a line `  = TEXT` says what an answer says, as annotate.py does
+    boot=FILE   the core is booted by a boot description (embed/teec/README.md), before the first line
+The program is the one of program=FILE, of the description, or what `rt run` has built in crates/optee_live.
 
-Status: that of the program, which is 0 where its input is over; 2 at other words.
-usage: live.py [program=FILE] [script] [serve] [notes]
+Status: that of the program, which is 0 where its input is over; 2 at other words, or a description that is wrong.
+usage: live.py [program=FILE] [boot=FILE] [script] [serve] [notes]
 """
 
 import collections
@@ -24,6 +24,7 @@ import signal
 import subprocess
 import sys
 
+import description
 import formats
 import image
 import lift
@@ -157,6 +158,14 @@ class Conversation:
         if ending != "ok":
             raise Refused(line, ending)
         return lines
+
+    def boot(self, described):
+        """Boots the core by a description, as description.read gives it. One that keeps no history is booted so where the program
+        knows the line for that: whether it does."""
+        is_kept = described.has_history or self.send("history off").ending != "ok"
+        for line in described.lines():
+            self.ask(line)
+        return not is_kept
 
     def smc(self, cpu, registers, steps=MOST_STEPS):
         """A processor enters with up to eight registers, and exits: those of the answer."""
@@ -336,9 +345,11 @@ class Prompt:
                 return
             yield self.typed
 
-    def hold(self):
-        """Holds the conversation to its end. The status."""
+    def hold(self, described=None):
+        """Holds the conversation to its end, with a core that is booted by a description where there is one. The status."""
         try:
+            if described:
+                self.talk.boot(described)
             for text in self.typed_lines():
                 try:
                     self.take(text)
@@ -365,13 +376,23 @@ FAULTS = {
 OPTIONS = ("script", "serve", "notes")
 
 
+def described_by(path):
+    """What a description says."""
+    try:
+        return description.read(path)
+    except description.Fault as fault:
+        raise BadWords(str(fault)) from fault
+
+
 def main(words):
     words = list(words)
-    file = program.taken_from(words)
+    file, path = program.taken_from(words), program.taken_from(words, "boot")
     if len(set(words)) != len(words) or not set(words) <= set(OPTIONS):
         raise BadWords()
+    described = described_by(path) if path is not None else None
     signal.signal(signal.SIGPIPE, signal.SIG_IGN)  # a program that has ended is told by its status
-    return Prompt(file, words).hold()
+    prompt = Prompt(file or described and described.program, words)
+    return prompt.hold(described)
 
 
 if __name__ == "__main__":

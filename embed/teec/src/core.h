@@ -53,8 +53,7 @@ struct core {
     uint32_t lent, cancel_place; /* pages that are lent to the slots, one each; the argument of a cancel */
     unsigned slots, running;     /* free slots for calls; calls inside that don't sleep */
     struct seat *seats;          /* inside */
-    struct seat *sleepers[MOST_THREADS];
-    bool is_early[MOST_THREADS]; /* woken before it slept */
+    struct seat *sleepers[MOST_THREADS]; /* by their keys */
     uint64_t virtual_now;        /* milliseconds */
     uint32_t last_cookie;
 };

@@ -46,19 +46,15 @@ void seat_suspend(struct core *core, struct seat *seat, uint32_t milliseconds) {
     sleep_inside(core, seat, &until);
 }
 
-/* A wake may have come before. */
+/* No wake comes before its sleep: the call has asked for the sleep in this turn, and another one has to have a turn to wake it. */
 void seat_sleep(struct core *core, struct seat *seat, uint64_t key) {
     if (key >= MOST_THREADS) return;
-    if (!core->is_early[key]) {
-        core->sleepers[key] = seat;
-        sleep_inside(core, seat, NULL);
-        core->sleepers[key] = NULL;
-    }
-    core->is_early[key] = false;
+    core->sleepers[key] = seat;
+    sleep_inside(core, seat, NULL);
+    core->sleepers[key] = NULL;
 }
 
 void core_wake_key(struct core *core, uint64_t key) {
     if (key >= MOST_THREADS) return;
     if (core->sleepers[key]) seat_wake(core, core->sleepers[key]);
-    else core->is_early[key] = true;
 }

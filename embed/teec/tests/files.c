@@ -99,6 +99,20 @@ static void shared(void) {
     TEEC_FinalizeContext(&second);
 }
 
+/* What a context leaves open it closes, in a core that others go on with: 64 sessions, and half of the RAM. */
+static void left_open(void) {
+    TEEC_Context stays, goes;
+    CHECK(TEEC_InitializeContext(NULL, &stays) == TEEC_SUCCESS);
+    for (int round = 0; round < 3; round++) {
+        TEEC_SharedMemory memory = {.size = 2 << 20, .flags = TEEC_MEM_INPUT};
+        CHECK(TEEC_InitializeContext(NULL, &goes) == TEEC_SUCCESS);
+        for (int i = 0; i < 64; i++) opened(&goes, COPY);
+        CHECK(TEEC_AllocateSharedMemory(&goes, &memory) == TEEC_SUCCESS);
+        TEEC_FinalizeContext(&goes);
+    }
+    TEEC_FinalizeContext(&stays);
+}
+
 static TEEC_Session alone;
 static TEEC_Operation waiting;
 
@@ -131,7 +145,7 @@ static void one_thread(void) {
 
 int main(void) {
     CHECK(mkdtemp(folder) != NULL);
-    in_folder(), shared(), one_thread();
+    in_folder(), shared(), left_open(), one_thread();
     char inner[100];
     snprintf(inner, sizeof inner, "%s/f4e750bb14374fbf87858d3580c34994", folder);
     CHECK(rmdir(inner) == 0 && rmdir(folder) == 0 && unlink(described_path) == 0);

@@ -152,9 +152,32 @@ static void virtual_time(void) {
     ctx = real;
 }
 
+/* In virtual time a call that another one wakes goes on before time does: the second of two calls of an instance, of an hour each, ends
+ * before a wait of ten hours does. */
+static void wakes_in_virtual_time(void) {
+    TEEC_Context real = ctx;
+    TEEC_Operation op = operation(TEEC_VALUE_OUTPUT, TEEC_VALUE_OUTPUT, TEEC_NONE, TEEC_NONE);
+    struct job jobs[4];
+    CHECK(TEEC_InitializeContext(described((const char *[]){"clock virtual", "boot 1 6 64", NULL}), &ctx) == TEEC_SUCCESS);
+    TEEC_Session one = opened(&ctx, TURNSTILE), other = opened(&ctx, TURNSTILE), clock = opened(&ctx, CLOCK), spin = opened(&ctx, SPIN);
+    /* The three come in while another call works on, and time stands. */
+    start(&jobs[0], &spin, 30000000, TEEC_NONE);
+    usleep(20000);
+    jobs[1].session = &clock, jobs[1].function = 36000000, jobs[1].operation = op;
+    pthread_create(&jobs[1].thread, NULL, invokes, &jobs[1]);
+    start(&jobs[2], &one, 3600000, TEEC_VALUE_OUTPUT);
+    start(&jobs[3], &other, 3600000, TEEC_VALUE_OUTPUT);
+    for (int i = 0; i < 4; i++) wanted(&jobs[i], TEEC_SUCCESS, APP, 0, 60);
+    CHECK(TEEC_InvokeCommand(&clock, 0, &op, NULL) == TEEC_SUCCESS);
+    CHECK(op.params[0].value.a == 36000);
+    TEEC_FinalizeContext(&ctx);
+    unlink(described_path);
+    ctx = real;
+}
+
 int main(void) {
     CHECK(TEEC_InitializeContext(NULL, &ctx) == TEEC_SUCCESS);
-    cancels(), line(), grants(), virtual_time();
+    cancels(), line(), grants(), virtual_time(), wakes_in_virtual_time();
     TEEC_FinalizeContext(&ctx);
     return ended("waits");
 }
