@@ -22,10 +22,6 @@ void core_advance(struct core *core) {
 }
 
 static void sleep_inside(struct core *core, struct seat *seat, const struct timespec *until) {
-    /* What has woken it before, in the line for a slot, is no end of this sleep. */
-    pthread_mutex_lock(&core->mutex);
-    seat->waiter.is_woken = false;
-    pthread_mutex_unlock(&core->mutex);
     seat->sleeps = true, core->running--;
     core_advance(core);
     turn_sleep(core, &seat->waiter, until);

@@ -79,7 +79,7 @@ static bool is_before(const struct timespec *one, const struct timespec *other) 
     return one->tv_sec != other->tv_sec ? one->tv_sec < other->tv_sec : one->tv_nsec < other->tv_nsec;
 }
 
-/* Gives the turn away until the waiter is woken or until a time, and says whether it was woken. */
+/* Gives the turn away until the waiter is woken or until a time, and says whether it was woken. All wakes up to its next turn are one. */
 static bool rests_until(struct core *core, struct waiter *waiter, const struct timespec *until) {
     pthread_mutex_lock(&core->mutex);
     leave_locked(core);

@@ -44,7 +44,7 @@ def main():
                 print(f"said   {said}\nwanted {wanted}")
     described = description.read(TESTS.parent / "hosts/boot.txt")
     checks += 1
-    faults += (described.threads, len(described.applications), described.is_virtual, described.steps) != (4, 11, False, 100_000)
+    faults += (described.threads, len(described.applications), described.is_virtual, described.steps) != (4, 14, False, 100_000)
     if "TULGEXAR_LIVE" in os.environ:
         with live.Conversation(os.environ["TULGEXAR_LIVE"]) as talk:
             talk.boot(described)
