@@ -149,7 +149,8 @@ struct live_slot {
     uint32_t client, session, instance;
     char wants[8]; /* at LIVE_ASKS: `time`, `suspend`, `read` and others, by docs/conversation.md */
     bool has_buffer, is_cancelled;
-    bool is_masked; /* at LIVE_RUNS and LIVE_ASKS: its application has masked cancellation; an older program doesn't tell it */
+    /* At LIVE_RUNS and LIVE_ASKS: its application has masked cancellation. An older program doesn't tell it. */
+    bool is_masked;
     uint64_t address, cookie; /* of its buffer */
 };
 

@@ -47,7 +47,8 @@ enum asked { A_CALL, A_WRITE, A_WRITE_OUT_OF_RAM, A_WRITE_OF_CPU_8, A_WATCH, A_S
 #define BOOTED "read -r line; echo ok; read -r line; "
 #define WATCHED BOOTED "echo ok; read -r line; "
 #define REGISTER " 00000000"
-#define REGISTERS REGISTER REGISTER REGISTER REGISTER REGISTER REGISTER REGISTER REGISTER
+#define SEVEN_REGISTERS REGISTER REGISTER REGISTER REGISTER REGISTER REGISTER REGISTER
+#define REGISTERS REGISTER SEVEN_REGISTERS
 #define RET "ret 0" REGISTERS "\n"
 /* It ends at the next line, or says nothing up to the end of its input. */
 #define ENDS "; read -r line"
@@ -72,7 +73,7 @@ static const struct lie {
     {"a kind of sixteen letters", false, A_CALL, BOOTED "echo bad abcdefghijklmnop" ENDS},
     {"a byte of zero in the line that ends it", false, A_WRITE, BOOTED "printf 'ok\\000x\\n'" ENDS},
     {"a byte of zero behind the registers", false, A_CALL, BOOTED "printf 'ret 0" REGISTERS "\\000\\nok\\n'" ENDS},
-    {"a register in capitals", false, A_CALL, BOOTED "printf 'ret 0 0000000A" REGISTER REGISTER REGISTER REGISTER REGISTER REGISTER REGISTER "\\nok\\n'" ENDS},
+    {"a register in capitals", false, A_CALL, BOOTED "printf 'ret 0 0000000A" SEVEN_REGISTERS "\\nok\\n'" ENDS},
     {"a watch that is refused", true, A_WATCH, BOOTED "echo bad item" ENDS},
     {"blocks without an end", true, A_CALL, WATCHED "printf '" RET "'; yes \"wrote 0 40000000 $(printf %0128d 0)\""},
     {"a state without an end", false, A_STATE, BOOTED "yes threads 9"},
@@ -244,7 +245,9 @@ static void try_turns(void) {
     tell("a boot", live_boot(live, &usual));
     struct live_answer answer = live_turn(live, &turn);
     tell("a turn", answer);
-    printf("  a1 %u, read %d %d %d %d %d %d, in the copy %d\n", answer.a[1], read[0], read[1], read[2], read[3], read[4], read[5], live_ram(live, 1)[2]);
+    printf("  a1 %u, read", answer.a[1]);
+    for (int i = 0; i < 6; i++) printf(" %d", read[i]);
+    printf(", in the copy %d\n", live_ram(live, 1)[2]);
     turn.cpu = 2, tell("a processor that there isn't", live_turn(live, &turn)), turn.cpu = 1;
     targets[1].length = 2, tell("a read that leaves RAM", live_turn(live, &turn)), targets[1].length = 1;
     targets[0].length = 4097, tell("a read of 4097 bytes", live_turn(live, &turn)), targets[0].length = 4096;

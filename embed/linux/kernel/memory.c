@@ -153,7 +153,7 @@ int get_order(unsigned long size)
 
 	if (size == 0)
 		return BITS_PER_LONG - PAGE_SHIFT;
-	while (PAGE_SIZE << order < size)
+	while (order < BITS_PER_LONG - PAGE_SHIFT && PAGE_SIZE << order < size)
 		order++;
 	return order;
 }

@@ -126,8 +126,6 @@ static long put_memory(struct tee *tee, struct scratch *scratch, const struct ca
 		*to = null_memory(direction);
 		return 0;
 	}
-	if (memory->size > MOST_SHARED)
-		return -ENOMEM;
 	place = place_of(scratch, call, i, &offset);
 	if (!memory->shared)
 		*place = memory_allocate(tee->file, memory->size ? memory->size : 1);

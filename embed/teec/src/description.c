@@ -63,9 +63,14 @@ static bool is_hexadecimal(const char *text) {
     return *text == 0;
 }
 
+/* The byte of two digits. */
+static uint8_t byte_of(const char *digits) {
+    return (uint8_t)(digit_value(digits[0]) << 4 | digit_value(digits[1]));
+}
+
 static bool takes_bytes(const char *text, uint8_t *bytes, size_t length) {
     if (strlen(text) != 2 * length || !is_hexadecimal(text)) return false;
-    for (size_t i = 0; i < length; i++) bytes[i] = (uint8_t)(digit_value(text[2 * i]) << 4 | digit_value(text[2 * i + 1]));
+    for (size_t i = 0; i < length; i++) bytes[i] = byte_of(text + 2 * i);
     return true;
 }
 
@@ -93,7 +98,7 @@ static bool has_unmask(const char *image) {
     enum { HEAD_DIGITS = 72, DIGITS = 16 };
     uint8_t code[8];
     for (size_t at = HEAD_DIGITS, length = strlen(image); at + DIGITS <= length; at += DIGITS) {
-        for (int i = 0; i < 8; i++) code[i] = (uint8_t)(digit_value(image[at + 2 * (size_t)i]) << 4 | digit_value(image[at + 2 * (size_t)i + 1]));
+        for (size_t i = 0; i < sizeof code; i++) code[i] = byte_of(image + at + 2 * i);
         if (code[0] == 0x18 && code[4] == 10 && code[5] == 0 && code[6] == 0 && code[7] == 0) return true;
     }
     return false;

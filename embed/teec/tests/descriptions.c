@@ -53,9 +53,10 @@ static void refused(void) {
     char said[MOST_SAID], wanted[MOST_SAID], text[100000], image[90000];
     FILE *file = fopen("../../examples/applications/copy.hex", "r");
     CHECK(file && fgets(image, sizeof image, file)), fclose(file);
-    snprintf(text, sizeof text, "boot 1 4 8\nta 33333333-4444-5555-6666-777777777777 %s\nta 33333333-4444-5555-6666-777777777778 4f54\n", image);
+    static const char second[] = "33333333-4444-5555-6666-777777777778";
+    snprintf(text, sizeof text, "boot 1 4 8\nta 33333333-4444-5555-6666-777777777777 %s\nta %s 4f54\n", image, second);
     CHECK(begun(text, said) == TEEC_ERROR_BAD_FORMAT);
-    snprintf(wanted, sizeof wanted, "%s:4: the core refuses application 33333333-4444-5555-6666-777777777778: bad image\n", described_path);
+    snprintf(wanted, sizeof wanted, "%s:4: the core refuses application %s: bad image\n", described_path, second);
     CHECK(strstr(said, wanted) != NULL);
 }
 

@@ -15,7 +15,8 @@ static const char *with_files(const char *at, const char *key) {
 }
 
 static TEEC_Result storage(TEEC_Session *session, uint32_t command, const char *id, void *data, size_t *size) {
-    TEEC_Operation op = operation(TEEC_MEMREF_TEMP_INPUT, command == 0 ? TEEC_MEMREF_TEMP_OUTPUT : command == 1 ? TEEC_MEMREF_TEMP_INPUT : TEEC_NONE, 0, 0);
+    uint32_t type = command == 0 ? TEEC_MEMREF_TEMP_OUTPUT : command == 1 ? TEEC_MEMREF_TEMP_INPUT : TEEC_NONE;
+    TEEC_Operation op = operation(TEEC_MEMREF_TEMP_INPUT, type, TEEC_NONE, TEEC_NONE);
     op.params[0].tmpref = (TEEC_TempMemoryReference){(void *)id, strlen(id)};
     if (size) op.params[1].tmpref = (TEEC_TempMemoryReference){data, *size};
     TEEC_Result result = TEEC_InvokeCommand(session, command, &op, &origin);
@@ -88,7 +89,8 @@ static void shared(void) {
     char data[100] = "text";
     size_t size = 5;
     CHECK(TEEC_InitializeContext(NULL, &first) == TEEC_SUCCESS && TEEC_InitializeContext(NULL, &second) == TEEC_SUCCESS);
-    TEEC_Session one = opened(&first, TURNSTILE), two = opened(&second, TURNSTILE), keep = opened(&first, STORAGE), get = opened(&second, STORAGE);
+    TEEC_Session one = opened(&first, TURNSTILE), two = opened(&second, TURNSTILE);
+    TEEC_Session keep = opened(&first, STORAGE), get = opened(&second, STORAGE);
     CHECK(TEEC_InvokeCommand(&one, 0, &op, &origin) == TEEC_SUCCESS && op.params[0].value.a == 1);
     CHECK(TEEC_InvokeCommand(&two, 0, &op, &origin) == TEEC_SUCCESS && op.params[0].value.a == 2);
     CHECK(storage(&keep, 1, "name", data, &size) == TEEC_SUCCESS);

@@ -17,8 +17,11 @@ static uint32_t next(uint32_t *seed) {
 static TEEC_Result mixed(TEEC_Session *session, uint32_t kind, uint32_t *from) {
     static uint8_t bytes[5000];
     TEEC_Operation op = operation(TEEC_VALUE_INOUT, TEEC_NONE, TEEC_NONE, TEEC_NONE);
-    if (kind == 1) op.paramTypes = TEEC_PARAM_TYPES(TEEC_MEMREF_TEMP_INPUT, TEEC_NONE, TEEC_NONE, TEEC_NONE), op.params[0].tmpref = (TEEC_TempMemoryReference){bytes, sizeof bytes};
-    if (kind == 2) op.paramTypes = TEEC_NONE;
+    if (kind == 1) {
+        op = operation(TEEC_MEMREF_TEMP_INPUT, TEEC_NONE, TEEC_NONE, TEEC_NONE);
+        op.params[0].tmpref = (TEEC_TempMemoryReference){bytes, sizeof bytes};
+    }
+    if (kind == 2) op = operation(TEEC_NONE, TEEC_NONE, TEEC_NONE, TEEC_NONE);
     TEEC_Result result = TEEC_InvokeCommand(session, kind == 2 ? 600000 : 0, &op, from);
     /* Memory isn't what the application wants. */
     return kind == 1 && result == TEEC_ERROR_BAD_PARAMETERS && *from == APP ? TEEC_SUCCESS : result;

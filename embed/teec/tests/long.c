@@ -34,8 +34,9 @@ int main(int count, char **words) {
         }
         last = memory_of(pids[0]);
         if (part == 0) first = last;
-        printf("%9ld calls: %6.0f a second, %ld KiB in the core, %ld here\n", (part + 1) * (calls / PARTS), (double)(calls / PARTS) / (now() - begin), last,
-               memory_of(getpid()));
+        double rate = (double)(calls / PARTS) / (now() - begin);
+        printf("%9ld calls: %6.0f a second, ", (part + 1) * (calls / PARTS), rate);
+        printf("%ld KiB in the core, %ld here\n", last, memory_of(getpid()));
         fflush(stdout);
     }
     CHECK(last <= first + first / 10); /* it stays */

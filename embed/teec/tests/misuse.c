@@ -23,10 +23,10 @@ static void contexts(void) {
     free(live), free(boot);
 }
 
-static void objects(void) {
+/* Null, wild and foreign objects. */
+static void sessions(void) {
     TEEC_Context ctx, other;
     TEEC_Session session, copied, wild;
-    TEEC_SharedMemory memory = {.size = 10, .flags = TEEC_MEM_INPUT}, bad = {.size = 10};
     TEEC_Operation op = operation(TEEC_VALUE_INOUT, TEEC_NONE, TEEC_NONE, TEEC_NONE);
     CHECK(TEEC_InitializeContext(NULL, &ctx) == TEEC_SUCCESS && TEEC_InitializeContext(NULL, &other) == TEEC_SUCCESS);
     GIVES(TEEC_OpenSession(NULL, &session, &HELLO, 0, NULL, NULL, &origin), TEEC_ERROR_BAD_PARAMETERS, API);
@@ -45,6 +45,13 @@ static void objects(void) {
     TEEC_CloseSession(&session), TEEC_CloseSession(&session), TEEC_CloseSession(&copied);
     GIVES(TEEC_InvokeCommand(&session, 0, &op, &origin), TEEC_ERROR_BAD_PARAMETERS, API);
     GIVES(TEEC_InvokeCommand(&copied, 0, &op, &origin), TEEC_ERROR_BAD_PARAMETERS, API);
+    TEEC_FinalizeContext(&ctx), TEEC_FinalizeContext(&other);
+}
+
+static void shared_memory(void) {
+    TEEC_Context ctx;
+    TEEC_SharedMemory memory = {.size = 10, .flags = TEEC_MEM_INPUT}, bad = {.size = 10};
+    CHECK(TEEC_InitializeContext(NULL, &ctx) == TEEC_SUCCESS);
     CHECK(TEEC_AllocateSharedMemory(NULL, &memory) == TEEC_ERROR_BAD_PARAMETERS);
     CHECK(TEEC_AllocateSharedMemory(&ctx, NULL) == TEEC_ERROR_BAD_PARAMETERS);
     CHECK(TEEC_RegisterSharedMemory(&ctx, &memory) == TEEC_ERROR_BAD_PARAMETERS); /* no buffer */
@@ -54,17 +61,25 @@ static void objects(void) {
     memory.size = 10, CHECK(TEEC_AllocateSharedMemory(&ctx, &memory) == TEEC_SUCCESS);
     TEEC_SharedMemory twice = memory;
     TEEC_ReleaseSharedMemory(&memory), TEEC_ReleaseSharedMemory(&memory), TEEC_ReleaseSharedMemory(&twice), TEEC_ReleaseSharedMemory(NULL);
-    TEEC_RequestCancellation(NULL), TEEC_RequestCancellation(&op);
-    /* What is left open the context closes; then its sessions are none. */
-    session = opened(&ctx, HELLO);
+    TEEC_FinalizeContext(&ctx);
+}
+
+/* What is left open the context closes; then its sessions are none, and another context goes on. */
+static void finalized(void) {
+    TEEC_Context ctx, other;
+    TEEC_SharedMemory memory = {.size = 10, .flags = TEEC_MEM_INPUT};
+    TEEC_Operation op = operation(TEEC_VALUE_INOUT, TEEC_NONE, TEEC_NONE, TEEC_NONE);
+    CHECK(TEEC_InitializeContext(NULL, &ctx) == TEEC_SUCCESS && TEEC_InitializeContext(NULL, &other) == TEEC_SUCCESS);
+    TEEC_RequestCancellation(NULL);
+    TEEC_Session session = opened(&ctx, HELLO);
     CHECK(TEEC_AllocateSharedMemory(&ctx, &memory) == TEEC_SUCCESS);
     TEEC_FinalizeContext(&ctx), TEEC_FinalizeContext(&ctx);
     GIVES(TEEC_InvokeCommand(&session, 0, &op, &origin), TEEC_ERROR_BAD_PARAMETERS, API);
     TEEC_CloseSession(&session), TEEC_ReleaseSharedMemory(&memory);
     GIVES(TEEC_OpenSession(&ctx, &session, &HELLO, 0, NULL, NULL, &origin), TEEC_ERROR_BAD_PARAMETERS, API);
     session = opened(&other, HELLO);
-    op.params[0].value.a = 1;
     GIVES(TEEC_InvokeCommand(&session, 0, &op, &origin), TEEC_SUCCESS, APP);
+    CHECK(op.params[0].value.a == 1);
     TEEC_FinalizeContext(&other);
 }
 
@@ -87,7 +102,7 @@ __attribute__((unused)) static void reads_all(void) {
 }
 
 int main(void) {
-    contexts(), objects();
+    contexts(), sessions(), shared_memory(), finalized();
 #ifndef __SANITIZE_THREAD__ /* it has one thread, and would take a minute */
     reads_all();
 #endif

@@ -37,6 +37,8 @@ static const TEEC_UUID HELLO = {0x8aaaf200, 0x2450, 0x11e4, {0xab, 0xe2, 0x00, 0
 #define MADE(last) {0x33333333, 0x4444, 0x5555, {0x66, 0x66, 0x77, 0x77, 0x77, 0x77, 0x77, last}}
 static const TEEC_UUID WAIT = MADE(0x77), MASKED = MADE(0x78), TURNSTILE = MADE(0x79), COPY = MADE(0x7a), MEMORY = MADE(0x7b);
 static const TEEC_UUID LOGIN = MADE(0x7c), PANIC = MADE(0x7d), CLOCK = MADE(0x7e), SPIN = MADE(0x7f), NONE = MADE(0x00);
+/* In C: sdk/examples/countdown. */
+static const TEEC_UUID COUNTDOWN = {0x6f2a1c00, 0x31d5, 0x4b7e, {0x9c, 0x41, 0x0d, 0x5e, 0x8a, 0x77, 0x21, 0x05}};
 
 __attribute__((unused)) static double now(void) {
     struct timespec at;
@@ -119,4 +121,5 @@ static int ended(const char *name) {
 }
 
 /* So that each test may leave some of these. */
-__attribute__((unused)) static const void *const all_of_them[] = {&HELLO, &WAIT, &MASKED, &TURNSTILE, &COPY, &MEMORY, &LOGIN, &PANIC, &CLOCK, &SPIN, &NONE};
+__attribute__((unused)) static const void *const all_of_them[] = {&HELLO, &WAIT,  &MASKED, &TURNSTILE, &COPY, &MEMORY,
+                                                                  &LOGIN, &PANIC, &CLOCK,  &SPIN,      &NONE, &COUNTDOWN};

@@ -35,34 +35,41 @@ static void wanted(struct job *job, TEEC_Result result, uint32_t origin, double 
         printf("   came %08x of %u in %.3f s\n", job->result, job->origin, job->seconds);
 }
 
-static void cancels(void) {
-    TEEC_Session wait = opened(&ctx, WAIT), masked = opened(&ctx, MASKED), turnstile = opened(&ctx, TURNSTILE);
-    struct job jobs[MOST];
-    /* While it waits. */
-    start(&jobs[0], &wait, 600000, TEEC_NONE);
+/* In its wait, where it is unmasked; and where it never is it waits on. */
+static void cancel_in_a_wait(void) {
+    TEEC_Session wait = opened(&ctx, WAIT), masked = opened(&ctx, MASKED);
+    struct job job;
+    start(&job, &wait, 600000, TEEC_NONE);
     usleep(100000);
-    TEEC_RequestCancellation(&jobs[0].operation);
-    wanted(&jobs[0], TEEC_ERROR_CANCEL, APP, 0, 5);
-    /* One that never unmasks: it waits on. */
-    start(&jobs[0], &masked, 400, TEEC_NONE);
+    TEEC_RequestCancellation(&job.operation);
+    wanted(&job, TEEC_ERROR_CANCEL, APP, 0, 5);
+    start(&job, &masked, 400, TEEC_NONE);
     usleep(100000);
-    TEEC_RequestCancellation(&jobs[0].operation);
-    wanted(&jobs[0], TEEC_SUCCESS, APP, 0.39, 3);
-    /* Before it has begun. */
-    jobs[0].operation = operation(TEEC_NONE, TEEC_NONE, TEEC_NONE, TEEC_NONE);
-    TEEC_RequestCancellation(&jobs[0].operation);
-    invokes(&jobs[0]);
-    CHECK(jobs[0].result == TEEC_ERROR_CANCEL && jobs[0].origin == API);
-    /* Behind its end: nothing, and the operation can be used again. */
-    jobs[0].function = 1;
-    invokes(&jobs[0]);
-    CHECK(jobs[0].result == TEEC_SUCCESS);
-    TEEC_RequestCancellation(&jobs[0].operation);
-    jobs[0].function = 1;
-    invokes(&jobs[0]);
-    CHECK(jobs[0].result == TEEC_SUCCESS);
-    /* In the line for a slot: three have the slots. */
-    TEEC_Session waits[4] = {wait, opened(&ctx, WAIT), opened(&ctx, WAIT), opened(&ctx, WAIT)};
+    TEEC_RequestCancellation(&job.operation);
+    wanted(&job, TEEC_SUCCESS, APP, 0.39, 3);
+    TEEC_CloseSession(&wait), TEEC_CloseSession(&masked);
+}
+
+/* Before it has begun, and behind its end, where the operation can be used again. */
+static void cancel_outside(void) {
+    TEEC_Session wait = opened(&ctx, WAIT);
+    struct job job = {.session = &wait, .function = 1, .operation = operation(TEEC_NONE, TEEC_NONE, TEEC_NONE, TEEC_NONE)};
+    TEEC_RequestCancellation(&job.operation);
+    invokes(&job);
+    CHECK(job.result == TEEC_ERROR_CANCEL && job.origin == API);
+    for (int i = 0; i < 2; i++) {
+        invokes(&job);
+        CHECK(job.result == TEEC_SUCCESS);
+        TEEC_RequestCancellation(&job.operation);
+    }
+    TEEC_CloseSession(&wait);
+}
+
+/* In the line for a slot, while three have the slots. */
+static void cancel_in_line(void) {
+    TEEC_Session waits[4];
+    struct job jobs[4];
+    for (int i = 0; i < 4; i++) waits[i] = opened(&ctx, WAIT);
     for (int i = 0; i < 3; i++) start(&jobs[i], &waits[i], 600000, TEEC_NONE);
     usleep(100000);
     start(&jobs[3], &waits[3], 600000, TEEC_NONE);
@@ -70,7 +77,14 @@ static void cancels(void) {
     TEEC_RequestCancellation(&jobs[3].operation);
     wanted(&jobs[3], TEEC_ERROR_CANCEL, API, 0, 5);
     for (int i = 0; i < 3; i++) TEEC_RequestCancellation(&jobs[i].operation), wanted(&jobs[i], TEEC_ERROR_CANCEL, APP, 0, 5);
-    /* Only one of two calls of a session; the other waits for the instance, and goes on then. */
+    for (int i = 0; i < 4; i++) TEEC_CloseSession(&waits[i]);
+}
+
+/* One of two calls of a session. Where the first one is meant, the other goes on when it has its instance; where the second one is, which
+ * waits for the instance, it sees the cancel when it begins. */
+static void cancel_one_of_two(void) {
+    TEEC_Session turnstile = opened(&ctx, TURNSTILE);
+    struct job jobs[2];
     start(&jobs[0], &turnstile, 600000, TEEC_VALUE_OUTPUT);
     usleep(50000);
     start(&jobs[1], &turnstile, 100, TEEC_VALUE_OUTPUT);
@@ -79,7 +93,6 @@ static void cancels(void) {
     wanted(&jobs[0], TEEC_ERROR_CANCEL, APP, 0, 5);
     wanted(&jobs[1], TEEC_SUCCESS, APP, 0.09, 5);
     CHECK(jobs[1].operation.params[0].value.a == 1);
-    /* One that waits for the instance: it sees the cancel when it begins. */
     start(&jobs[0], &turnstile, 300, TEEC_VALUE_OUTPUT);
     usleep(50000);
     start(&jobs[1], &turnstile, 600000, TEEC_VALUE_OUTPUT);
@@ -87,8 +100,36 @@ static void cancels(void) {
     TEEC_RequestCancellation(&jobs[1].operation);
     wanted(&jobs[0], TEEC_SUCCESS, APP, 0.29, 5);
     wanted(&jobs[1], TEEC_ERROR_CANCEL, APP, 0, 5);
-    for (int i = 1; i < 4; i++) TEEC_CloseSession(&waits[i]);
-    TEEC_CloseSession(&wait), TEEC_CloseSession(&masked), TEEC_CloseSession(&turnstile);
+    TEEC_CloseSession(&turnstile);
+}
+
+/* Whether the program is one that tells which calls are masked: it came with the line `history off`. */
+static bool tells_masks(void) {
+    char command[PATH_MAX + 50], said[10] = "";
+    snprintf(command, sizeof command, "printf 'history off\n' | \"%s\"", getenv("TULGEXAR_LIVE"));
+    FILE *program = popen(command, "r");
+    bool is_told = program && fgets(said, sizeof said, program) && strcmp(said, "ok\n") == 0;
+    if (program) pclose(program);
+    return is_told;
+}
+
+/* An application that can unmask: a cancel ends its wait where it has, and not where it is masked then. */
+static void masks(void) {
+    enum { COUNT_DOWN, COUNT_DOWN_MASKED };
+    TEEC_Session countdown = opened(&ctx, COUNTDOWN);
+    struct job job;
+    for (uint32_t function = COUNT_DOWN; function <= COUNT_DOWN_MASKED; function++) {
+        bool is_masked = function == COUNT_DOWN_MASKED;
+        job.session = &countdown, job.function = function;
+        job.operation = operation(TEEC_VALUE_INOUT, TEEC_NONE, TEEC_NONE, TEEC_NONE);
+        job.operation.params[0].value = (TEEC_Value){2, is_masked ? 200 : 600000};
+        pthread_create(&job.thread, NULL, invokes, &job);
+        usleep(100000);
+        TEEC_RequestCancellation(&job.operation);
+        wanted(&job, TEEC_ERROR_CANCEL, APP, is_masked && tells_masks() ? 0.39 : 0, 5);
+        CHECK(job.operation.params[0].value.a == (is_masked ? 0 : 2));
+    }
+    TEEC_CloseSession(&countdown);
 }
 
 /* More threads than slots, on one instance: they come one after the other. */
@@ -177,7 +218,8 @@ static void wakes_in_virtual_time(void) {
 
 int main(void) {
     CHECK(TEEC_InitializeContext(NULL, &ctx) == TEEC_SUCCESS);
-    cancels(), line(), grants(), virtual_time(), wakes_in_virtual_time();
+    cancel_in_a_wait(), cancel_outside(), cancel_in_line(), cancel_one_of_two(), masks();
+    line(), grants(), virtual_time(), wakes_in_virtual_time();
     TEEC_FinalizeContext(&ctx);
     return ended("waits");
 }
