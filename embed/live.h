@@ -120,9 +120,10 @@ struct live_turn {
     size_t target_count;
 };
 
-/* A turn in one round trip: the answer is that of its entry. Pieces of no bytes are passed over. Where a piece doesn't lie in RAM (`range`), there are too many (`count`),
- * or there is no such processor (`cpu`) or no core yet (`place`), it is LIVE_BAD, and nothing was said. Where the entry is refused,
- * what is written stays written, and the targets are read. They are complete but at these and at LIVE_OVER. */
+/* A turn in one round trip: the answer is that of its entry. Pieces of no bytes are passed over. Where a piece doesn't lie in RAM
+ * (`range`), there are too many (`count`), or there is no such processor (`cpu`) or no core yet (`place`), it is LIVE_BAD, and nothing
+ * was said. Where the entry is refused, what is written stays written, and the targets are read. They are complete but at these and at
+ * LIVE_OVER. */
 struct live_answer live_turn(struct live *live, const struct live_turn *turn);
 
 /* The hardware signals this value, 1 to 63. */
