@@ -14,14 +14,26 @@ import tempfile
 
 TEEC = pathlib.Path(__file__).resolve().parent.parent
 TESTS = ["descriptions", "parameters", "files", "waits", "misuse", "stress", "ends"]
-PATIENCE = 150  # seconds
+PATIENCE = 60  # seconds
 
 # Name: file, what stands there once, and what comes in its place. A name with a reason is one that no test can see.
 FAULTS = {
     "the last page of a block isn't taken": ("ram.c", "i < start + pages; i++", "i + 1 < start + pages; i++"),
-    "pages of shared memory aren't taken": ("ram.c", "    for (size_t i = 0; i < pages; i++) ram->is_taken[(addresses", "    for (size_t i = 1; i < pages; i++) ram->is_taken[(addresses"),
-    "a page isn't given back": ("ram.c", "    for (size_t i = 0; i < pages; i++) ram->is_taken[(address -", "    for (size_t i = 1; i < pages; i++) ram->is_taken[(address -"),
-    "a wake counts twice": ("turn.c", "    bool was_woken = waiter->is_woken;\n    waiter->is_woken = false;", "    bool was_woken = waiter->is_woken;"),
+    "pages of shared memory aren't taken": (
+        "ram.c",
+        "    for (size_t i = 0; i < pages; i++) ram->is_taken[(addresses",
+        "    for (size_t i = 1; i < pages; i++) ram->is_taken[(addresses",
+    ),
+    "a page isn't given back": (
+        "ram.c",
+        "    for (size_t i = 0; i < pages; i++) ram->is_taken[(address -",
+        "    for (size_t i = 1; i < pages; i++) ram->is_taken[(address -",
+    ),
+    "a wake counts twice": (
+        "turn.c",
+        "    bool was_woken = waiter->is_woken;\n    waiter->is_woken = false;",
+        "    bool was_woken = waiter->is_woken;",
+    ),
     "the turn is given to nobody": ("turn.c", "    if (core->turns) leave_locked(core), take_locked(core);", "    (void)core;"),
     "virtual time goes to the last end": ("sleep.c", "seat->until < first->until", "seat->until > first->until"),
     "a woken call is counted late": ("sleep.c", "    rouse(core, seat);\n    turn_wake", "    turn_wake"),
@@ -30,9 +42,16 @@ FAULTS = {
     "the length of a read isn't told": ("requests.c", "    of->request->parameters[1].q = length;", ""),
     "the time has no fraction": ("requests.c", "request->parameters[0].q = (uint64_t)now.tv_nsec", "request->parameters[0].q = 0"),
     "a new file is looked for": ("requests.c", "return serve_open(&of, true);", "return serve_open(&of, false);"),
-    "the result of a file isn't told": ("requests.c", "{seat->block + (uint32_t)area + RET_AT, (uint8_t *)request + RET_AT, REQUEST_BYTES - RET_AT}",
-                                         "{seat->block + (uint32_t)area + RET_AT + 4, (uint8_t *)request + RET_AT + 4, REQUEST_BYTES - RET_AT - 4}"),
-    "pages are taken to follow each other": ("shared.c", "length < most && place->addresses[page + 1] == place->addresses[page] + PAGE;", "length < most;"),
+    "the result of a file isn't told": (
+        "requests.c",
+        "{seat->block + (uint32_t)area + RET_AT, (uint8_t *)request + RET_AT, REQUEST_BYTES - RET_AT}",
+        "{seat->block + (uint32_t)area + RET_AT + 4, (uint8_t *)request + RET_AT + 4, REQUEST_BYTES - RET_AT - 4}",
+    ),
+    "pages are taken to follow each other": (
+        "shared.c",
+        "length < most && place->addresses[page + 1] == place->addresses[page] + PAGE;",
+        "length < most;",
+    ),
     "page lists have no next one": ("shared.c", "list[PER_LIST] = lists[i + 1];", "list[PER_LIST] = 0;"),
     "refused blocks keep their pages": ("shared.c", "        if (result) gives_pages(core, place);", ""),
     "blocks keep their page lists": ("shared.c", "    for (size_t i = 0; i < count; i++) ram_give(&core->ram, lists[i], 1);", ""),
@@ -40,8 +59,16 @@ FAULTS = {
     "outputs of any origin are told": ("teec.c", "if (operation && *origin == TEEC_ORIGIN_TRUSTED_APP)", "if (operation)"),
     "a short output is copied": ("seat.c", "!memory->is_out || size > memory->size) continue;", "!memory->is_out) continue;"),
     "a slot isn't taken": ("seat.c", "    core->slots--, core->running++;", "    core->running++;"),
-    "the line isn't woken": ("seat.c", "    core->slots++, core->running--;\n    turn_wake(core, core->line);", "    core->slots++, core->running--;"),
-    "masked calls are cancelled in their waits": ("seat.c", "    if (slot->phase != LIVE_ASKS || slot->is_masked) return true;", "    return false;"),
+    "the line isn't woken": (
+        "seat.c",
+        "    core->slots++, core->running--;\n    turn_wake(core, core->line);",
+        "    core->slots++, core->running--;",
+    ),
+    "masked calls are cancelled in their waits": (
+        "seat.c",
+        "    if (slot->phase != LIVE_ASKS || slot->is_masked) return true;",
+        "    return false;",
+    ),
     "a cancel has another number": ("seat.c", ".cancel_id = argument->cancel_id}", ".cancel_id = argument->cancel_id + 1}"),
     "a cancel doesn't reach the line": ("seat.c", "        if (seat->call->is_cancelled) return TEEC_ERROR_CANCEL;\n", ""),
     "an interrupt keeps the turn": ("seat.c", "        turn_yield(core);\n", ""),
@@ -50,27 +77,48 @@ FAULTS = {
     "a child keeps the pipes": ("core.c", "    if (core->live) live_forget(core->live);\n", ""),
     "a child thinks the core is its own": ("teec.c", "    tee_behind_fork(true);", "    tee_behind_fork(false);"),
     "a cancel before the begin is lost": ("teec.c", "!= CANCELLED_BEFORE", "!= 1"),
-    "sessions stay open behind their context": ("teec.c", "        if (session) close_session(context, session->number), free(session);", "        if (session) free(session);"),
+    "sessions stay open behind their context": (
+        "teec.c",
+        "        if (session) close_session(context, session->number), free(session);",
+        "        if (session) free(session);",
+    ),
     "any flags will do": ("teec.c", "return memory->flags != 0 &&", "return memory->flags == 0 ||"),
     "a closed session is known": ("teec.c", "    if (closed) *at = closed->next;", "    if (closed) closed = NULL;"),
     "a part may leave its block": ("operation.c", "part.size > shared->size - part.offset", "part.size > shared->size"),
     "a part may have other flags": ("operation.c", "part.flags & ~shared->flags || ", ""),
-    "sizes of parts aren't told": ("operation.c", "        case TEEC_MEMREF_PARTIAL_INOUT:\n            parameter->memref.size = (size_t)q;", "        case TEEC_MEMREF_PARTIAL_INOUT:"),
+    "sizes of parts aren't told": (
+        "operation.c",
+        "        case TEEC_MEMREF_PARTIAL_INOUT:\n            parameter->memref.size = (size_t)q;",
+        "        case TEEC_MEMREF_PARTIAL_INOUT:",
+    ),
     "users are named in decimal": ("login.c", '"uid=%x"', '"uid=%u"'),
     "any group will do": ("login.c", "if (!is_of_group(group)) return TEEC_ERROR_ACCESS_DENIED;", ""),
     "no application can unmask": ("description.c", "code[0] == 0x18", "code[0] == 0x19"),
-    "the last line of a description is left out": ("description.c", "getline(&line, &room, file) >= 0)", "getline(&line, &room, file) >= 0 && !feof(file))"),
+    "the last line of a description is left out": (
+        "description.c",
+        "getline(&line, &room, file) >= 0)",
+        "getline(&line, &room, file) >= 0 && !feof(file))",
+    ),
     "nobody looks after the core": ("talk.c", "since >= (long)core_third(core)", "since < 0"),
-    "callers aren't told of the end": ("talk.c", "    for (struct seat *seat = core->seats; seat; seat = seat->next) seat_wake(core, seat);", ""),
+    "callers aren't told of the end": (
+        "talk.c",
+        "    for (struct seat *seat = core->seats; seat; seat = seat->next) seat_wake(core, seat);",
+        "",
+    ),
     "a file may be made twice": ("files.c", "O_RDWR | O_CREAT | O_EXCL", "O_RDWR | O_CREAT"),
-    "files have holes of other bytes": ("files.c", "        memset(grown + file->length, 0, end - file->length);", "        memset(grown + file->length, 1, end - file->length);"),
+    "files have holes of other bytes": (
+        "files.c",
+        "        memset(grown + file->length, 0, end - file->length);",
+        "        memset(grown + file->length, 1, end - file->length);",
+    ),
     "names lead out of the folder": ("files.c", "file[length] == 0;", "true;"),
 }
 # Those that no test sees, and why.
 UNSEEN = {
-    "the last page of a block isn't taken": "the core copies what a call brings when it comes in, and writes when it ends: blocks that lie on one page don't meet",
-    "pages of shared memory aren't taken": "the same of shared memory, whose bytes are copied before and behind each call",
-    "a file may be made twice": "no application asks for a file that is there: the core asks by a create only where an open has found none",
+    "the length of a read isn't told": "the core reads no more of a file than it has",
+    "the last page of a block isn't taken": "the core copies what a call brings as it comes in, and writes at its end: blocks don't meet",
+    "pages of shared memory aren't taken": "likewise: its bytes are copied before and behind each call",
+    "a file may be made twice": "the core asks for a new file only where it has found none",
     "files have holes of other bytes": "the core writes a file from its front, without holes",
     "names lead out of the folder": "the core's names have no other bytes",
 }
@@ -103,7 +151,8 @@ def seen_by(folder, live):
     words = os.environ | {"TULGEXAR_LIVE": live, "TULGEXAR_BOOT": "hosts/boot.txt"}
     for test in TESTS:
         try:
-            done = subprocess.run([folder / f"teec/out/bin/test_{test}"], cwd=folder / "teec", env=words, capture_output=True, timeout=PATIENCE)
+            program = folder / f"teec/out/bin/test_{test}"
+            done = subprocess.run([program], cwd=folder / "teec", env=words, capture_output=True, timeout=PATIENCE)
         except subprocess.TimeoutExpired:
             return f"{test}, which hangs"
         if done.returncode:
