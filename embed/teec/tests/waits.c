@@ -22,9 +22,15 @@ static void *invokes(void *of) {
     return NULL;
 }
 
+/* Starts a job, and waits until its operation has begun. */
+static void begin_job(struct job *job) {
+    pthread_create(&job->thread, NULL, invokes, job);
+    while (__atomic_load_n(&job->operation.started, __ATOMIC_RELAXED) == 0) usleep(1000);
+}
+
 static void start(struct job *job, TEEC_Session *session, uint32_t function, uint32_t type) {
     job->session = session, job->function = function, job->operation = operation(type, TEEC_NONE, TEEC_NONE, TEEC_NONE);
-    pthread_create(&job->thread, NULL, invokes, job);
+    begin_job(job);
 }
 
 static void wanted(struct job *job, TEEC_Result result, uint32_t origin, double least, double most) {
@@ -86,19 +92,19 @@ static void cancel_one_of_two(void) {
     TEEC_Session turnstile = opened(&ctx, TURNSTILE);
     struct job jobs[2];
     start(&jobs[0], &turnstile, 600000, TEEC_VALUE_OUTPUT);
-    usleep(50000);
+    usleep(100000);
     start(&jobs[1], &turnstile, 100, TEEC_VALUE_OUTPUT);
-    usleep(50000);
+    usleep(100000);
     TEEC_RequestCancellation(&jobs[0].operation);
     wanted(&jobs[0], TEEC_ERROR_CANCEL, APP, 0, 5);
     wanted(&jobs[1], TEEC_SUCCESS, APP, 0.09, 5);
     CHECK(jobs[1].operation.params[0].value.a == 1);
-    start(&jobs[0], &turnstile, 300, TEEC_VALUE_OUTPUT);
-    usleep(50000);
+    start(&jobs[0], &turnstile, 1000, TEEC_VALUE_OUTPUT);
+    usleep(100000);
     start(&jobs[1], &turnstile, 600000, TEEC_VALUE_OUTPUT);
-    usleep(50000);
+    usleep(100000);
     TEEC_RequestCancellation(&jobs[1].operation);
-    wanted(&jobs[0], TEEC_SUCCESS, APP, 0.29, 5);
+    wanted(&jobs[0], TEEC_SUCCESS, APP, 0.99, 5);
     wanted(&jobs[1], TEEC_ERROR_CANCEL, APP, 0, 5);
     TEEC_CloseSession(&turnstile);
 }
@@ -123,7 +129,7 @@ static void masks(void) {
         job.session = &countdown, job.function = function;
         job.operation = operation(TEEC_VALUE_INOUT, TEEC_NONE, TEEC_NONE, TEEC_NONE);
         job.operation.params[0].value = (TEEC_Value){2, is_masked ? 200 : 600000};
-        pthread_create(&job.thread, NULL, invokes, &job);
+        begin_job(&job);
         usleep(100000);
         TEEC_RequestCancellation(&job.operation);
         wanted(&job, TEEC_ERROR_CANCEL, APP, is_masked && tells_masks() ? 0.39 : 0, 5);
@@ -138,10 +144,10 @@ static void line(void) {
     TEEC_Session sessions[MOST];
     uint32_t seen = 0;
     for (int i = 0; i < MOST; i++) sessions[i] = opened(&ctx, TURNSTILE);
-    double begin = now();
+    double before = now();
     for (int i = 0; i < MOST; i++) start(&jobs[i], &sessions[i], 20, TEEC_VALUE_OUTPUT);
     for (int i = 0; i < MOST; i++) wanted(&jobs[i], TEEC_SUCCESS, APP, 0.019, 5), seen |= 1u << jobs[i].operation.params[0].value.a;
-    CHECK(now() - begin > 0.019 * MOST && seen == (2u << MOST) - 2);
+    CHECK(now() - before > 0.019 * MOST && seen == (2u << MOST) - 2);
     for (int i = 0; i < MOST; i++) TEEC_CloseSession(&sessions[i]);
 }
 
@@ -205,7 +211,7 @@ static void wakes_in_virtual_time(void) {
     start(&jobs[0], &spin, 30000000, TEEC_NONE);
     usleep(20000);
     jobs[1].session = &clock, jobs[1].function = 36000000, jobs[1].operation = op;
-    pthread_create(&jobs[1].thread, NULL, invokes, &jobs[1]);
+    begin_job(&jobs[1]);
     start(&jobs[2], &one, 3600000, TEEC_VALUE_OUTPUT);
     start(&jobs[3], &other, 3600000, TEEC_VALUE_OUTPUT);
     for (int i = 0; i < 4; i++) wanted(&jobs[i], TEEC_SUCCESS, APP, 0, 60);
