@@ -60,10 +60,11 @@ static void refused(void) {
     CHECK(strstr(said, wanted) != NULL);
 }
 
-/* Capitals, tabs, empty lines and comments may stand. */
+/* Tabs, empty lines and comments may stand, and the last line feed may be left out. */
 static void taken(void) {
     char said[MOST_SAID];
     CHECK(begun("\n# a comment\n\tboot 1  4 8 \r\nlimit 5000\nsteps 1000000\nclock real\nhistory off\n\n", said) == TEEC_SUCCESS);
+    CHECK(begun("limit 5000\nboot 1 4 8", said) == TEEC_SUCCESS);
 }
 
 int main(void) {
