@@ -14,9 +14,9 @@ static TEEC_Context ctx;
 static uint32_t origin;
 static int ready;
 
-static const char *with_limit(void) {
+static const char *with_limit(int milliseconds) {
     char limit[30];
-    snprintf(limit, sizeof limit, "limit %d", LIMIT);
+    snprintf(limit, sizeof limit, "limit %d", milliseconds);
     return described((const char *[]){limit, NULL});
 }
 
@@ -69,13 +69,13 @@ static void join(struct caller callers[CALLERS], double begin) {
     CHECK(now() - begin < IN_TIME);
 }
 
-/* A signal comes to the core while so many callers wait. */
-static void signals(int signal, int waiting) {
+/* A signal comes to the core, with this limit, while so many callers wait. */
+static void signals(int signal, int waiting, int limit) {
     struct caller callers[CALLERS];
     TEEC_Session session;
     int before = descriptors();
     pid_t all[8];
-    CHECK(TEEC_InitializeContext(with_limit(), &ctx) == TEEC_SUCCESS);
+    CHECK(TEEC_InitializeContext(with_limit(limit), &ctx) == TEEC_SUCCESS);
     start(callers, waiting);
     double begin = now();
     kill(child(), signal);
@@ -102,7 +102,7 @@ static void ends_by_itself(void) {
     dprintf(file, "#!/bin/sh\nsed -u 400q | \"%s\"\n", live);
     fchmod(file, 0700), close(file);
     setenv("TULGEXAR_LIVE", name, 1);
-    CHECK(TEEC_InitializeContext(with_limit(), &ctx) == TEEC_SUCCESS);
+    CHECK(TEEC_InitializeContext(with_limit(LIMIT), &ctx) == TEEC_SUCCESS);
     double begin = now();
     ready = 0;
     for (int i = 0; i < CALLERS; i++) callers[i].task = i < 2 ? WAITS : WORKS, pthread_create(&callers[i].thread, NULL, calls, &callers[i]);
@@ -121,7 +121,7 @@ static void stands_still_at_boot(void) {
     fchmod(file, 0700), close(file);
     setenv("TULGEXAR_LIVE", name, 1);
     double begin = now();
-    CHECK(TEEC_InitializeContext(with_limit(), &ctx) == TEEC_ERROR_COMMUNICATION);
+    CHECK(TEEC_InitializeContext(with_limit(LIMIT), &ctx) == TEEC_ERROR_COMMUNICATION);
     CHECK(now() - begin < IN_TIME);
     setenv("TULGEXAR_LIVE", live, 1);
     free(live), unlink(name);
@@ -162,7 +162,7 @@ static int in_child(TEEC_Session *session) {
 /* Forks while eight threads call. */
 static void forks(void) {
     pthread_t threads[8];
-    CHECK(TEEC_InitializeContext(with_limit(), &ctx) == TEEC_SUCCESS);
+    CHECK(TEEC_InitializeContext(with_limit(LIMIT), &ctx) == TEEC_SUCCESS);
     TEEC_Session session = opened(&ctx, HELLO);
     for (int i = 0; i < 8; i++) pthread_create(&threads[i], NULL, works, NULL);
     for (int i = 0; i < 20; i++) {
@@ -195,7 +195,9 @@ static void fork_that_stays(void) {}
 #endif
 
 int main(void) {
-    signals(SIGKILL, 2), signals(SIGKILL, CALLERS), signals(SIGSTOP, 2), signals(SIGSTOP, CALLERS), signals(SIGTERM, 0);
+    /* Where somebody works all are told at once, however long the limit is. */
+    signals(SIGKILL, 2, 60000), signals(SIGTERM, 0, 60000);
+    signals(SIGKILL, CALLERS, LIMIT), signals(SIGSTOP, 2, LIMIT), signals(SIGSTOP, CALLERS, LIMIT);
     ends_by_itself(), stands_still_at_boot(), forks(), fork_that_stays();
     unlink(described_path);
     return ended("ends");
