@@ -348,11 +348,13 @@ static bool takes(const char **text, int count, uint32_t *number) {
 
 /* Takes so many bytes, of two digits each. */
 static bool takes_bytes(const char **text, uint8_t *bytes, size_t length) {
-    for (size_t i = 0; i < length; i++) {
-        uint32_t byte;
-        if (!takes(text, 2, &byte)) return false;
-        bytes[i] = (uint8_t)byte;
+    const uint8_t *digit = (const uint8_t *)*text;
+    for (size_t i = 0; i < length; i++, digit += 2) {
+        unsigned high = digit_values[digit[0]], low = high ? digit_values[digit[1]] : 0;
+        if (low == 0) return false;
+        bytes[i] = (uint8_t)((high - 1) << 4 | (low - 1));
     }
+    *text = (const char *)digit;
     return true;
 }
 
@@ -500,6 +502,10 @@ struct live_answer live_smc(struct live *live, unsigned cpu, uint32_t steps, con
     return hear_registers(live, cpu);
 }
 
+static size_t least(size_t one, size_t other) {
+    return one < other ? one : other;
+}
+
 static void say_show(struct live *live, unsigned cpu, uint64_t address, size_t length) {
     say(live, "show %u %" PRIx64 " %zu\n", cpu, address, length);
 }
@@ -511,13 +517,23 @@ static struct live_answer hear_bytes(struct live *live, unsigned cpu, uint64_t a
     return rest(live, is_data ? hear(live) : line, is_data);
 }
 
+/* Reads in one round trip what so many lines show. The answer is that of the first line that isn't taken, if there is one. */
+static struct live_answer read_round(struct live *live, unsigned cpu, uint64_t address, uint8_t *bytes, size_t length) {
+    struct live_answer first = {.end = LIVE_OK};
+    begin(live);
+    for (size_t at = 0; at < length; at += MOST_SHOWN) say_show(live, cpu, address + at, least(length - at, MOST_SHOWN));
+    for (size_t at = 0; at < length && first.end != LIVE_OVER; at += MOST_SHOWN) {
+        struct live_answer answer = hear_bytes(live, cpu, address + at, bytes + at, least(length - at, MOST_SHOWN));
+        if (first.end == LIVE_OK || answer.end == LIVE_OVER) first = answer;
+    }
+    return first;
+}
+
 struct live_answer live_read(struct live *live, unsigned cpu, uint64_t address, void *bytes, size_t length) {
     struct live_answer answer = {.end = live->is_over ? LIVE_OVER : LIVE_OK};
     for (size_t done = 0, part; done < length && answer.end == LIVE_OK; done += part) {
-        part = length - done < MOST_SHOWN ? length - done : MOST_SHOWN;
-        begin(live);
-        say_show(live, cpu, address + done, part);
-        answer = hear_bytes(live, cpu, address + done, (uint8_t *)bytes + done, part);
+        part = least(length - done, LIVE_MOST_PIECES * MOST_SHOWN);
+        answer = read_round(live, cpu, address + done, (uint8_t *)bytes + done, part);
     }
     return answer;
 }
