@@ -23,7 +23,7 @@ enum live_end {
     /* It breaks a rule, and has changed nothing: `kind` has the word for it. */
     LIVE_BAD,
     /* Its entry would bring the bytes that all entries have read above 2^28, and did not come in: `copied` has how many they
-     * have read. */
+     * have read. No entry does where no history is kept. */
     LIVE_FULL,
     /* The program has ended, or has said something that is no answer. All calls but live_close are answered so from then on. */
     LIVE_OVER
@@ -56,7 +56,7 @@ struct live_application {
 
 /* Options of a boot, each a line that is said before the others. A program that doesn't know one answers `bad item`. */
 enum live_option {
-    LIVE_HISTORY_OFF = 1 /* the core keeps nothing of entries and exits once they are over */
+    LIVE_HISTORY_OFF = 1 /* the core keeps no history, for a life without a limit: events are counted alone */
 };
 
 /* What a core is booted with. */
