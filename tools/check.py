@@ -400,6 +400,36 @@ def check_conversations(comparison):
         comparison.same(f"live.py at {line}", given[:2], (0, f"> boot 1 1 1\n< ok\n{wanted}"))
 
 
+class Zeros:
+    """RAM of zeros, with one registered buffer."""
+
+    def read(self, cpu, address, length):
+        return bytes(length)
+
+    def write(self, cpu, address, data):
+        pass
+
+    def place_of(self, cookie, offset):
+        return 0x40300000 + offset if cookie == 31 else None
+
+
+def check_areas(comparison):
+    """Where a supplicant takes the requests of a call from: the area behind its argument, where it has one, and none of a call that has
+    ended before."""
+    asks = next(code for code, name in formats.RPCS.items() if name == "CMD")
+    served, ended = supplicant.Supplicant(Zeros()), [0] * 8
+    for cpu, call, answers, place in (
+        (0, [formats.CALL_WITH_RPC_ARG, 0, 0x40000000], [[asks, 0, 0, 0, 0, 0, 0, 0]], 0x40000020),
+        (0, [formats.CALL_WITH_RPC_ARG, 0, 0x40001000], [ended, [asks, 0, 0, 0, 0, 0, 0, 0]], 0x40000020),
+        (1, [formats.CALL_WITH_REGD_ARG, 0, 31, 8], [[asks, 0, 0, 1, 0, 0, 0, 0]], 0x40300028),
+        (1, [formats.CALL_WITH_ARG, 0, 0x40002000], [[asks, 0, 0, 1, 0, 0, 0, 0]], 0x40011000),
+    ):
+        served.begins(cpu, call)
+        for answer in answers:
+            served.serves(cpu, answer)
+        comparison.same(f"supplicant.py: the requests of {call}", served.lent[answers[-1][3]].place, place)
+
+
 def file_call(files, name, *operands):
     """What a call on files gives, or the result with which it is refused."""
     try:
@@ -476,6 +506,7 @@ CHECKS = [
     check_applications_in_c,
     check_scripts,
     check_conversations,
+    check_areas,
     check_links,
     check_words,
 ]

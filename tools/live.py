@@ -12,7 +12,11 @@ Words, in any order:
     boot=FILE   the core is booted by a boot description (embed/teec/README.md), before the first line
 The program is the one of program=FILE, of the description, or what `rt run` has built in crates/optee_live.
 
-Status: that of the program, which is 0 where its input is over; 2 at other words, or a description that is wrong.
+With `serve` a call that sleeps, because a call that is inside or left suspended holds its instance, stays so, and goes on behind the next
+line of a call.
+
+Status: that of the program, which is 0 where its input is over; 1 where it ends before with 0, gives no answer within 60 seconds, or answers
+otherwise than a conversation; 2 at other words, or a description that is wrong.
 usage: live.py [program=FILE] [boot=FILE] [script] [serve] [notes]
 """
 
@@ -20,9 +24,11 @@ import collections
 import os
 import pathlib
 import re
+import select
 import signal
 import subprocess
 import sys
+import time
 
 import description
 import formats
@@ -32,9 +38,11 @@ import places
 import plays
 import program
 from supplicant import Supplicant
-from words import BadWords, run, text_of
+from words import BadWords, octets, plain, run, text_of
 
 MOST_SHOWN, MOST_STEPS = 4096, 1_000_000
+PATIENCE = 60  # seconds that an answer may take
+PIPE_BYTES = 1 << 16  # read at once
 RAM_START, RAM_BYTES = 0x4000_0000, 0x40_0000
 
 # The lines of an answer, and the one that ends it.
@@ -71,15 +79,35 @@ class Over(Exception):
         self.status = status
 
 
+class NoConversation(Exception):
+    """The program gives no answer, or one that isn't of a conversation's form."""
+
+
+class Asleep(Exception):
+    """A call sleeps until its instance is free, which another call holds that is inside or left suspended: a processor goes on with it by
+    `Driver.go_on(cpu, registers)`, behind that one."""
+
+    def __init__(self, cpu, registers):
+        super().__init__(f"the call in thread {registers[3]} sleeps: another call holds its instance, and is inside or left suspended")
+        self.cpu, self.registers = cpu, registers
+
+
+# What stands in the answer to a line of its first word: the form of the first line, and of those behind it. To others stands nothing.
+REGISTERS_TOLD, ANY = "ret [0-9]+( [0-9a-f]{8}){8}( [0-9]+ [0-9]+)?", "[a-z]+( .*)?"
+EXIT = REGISTERS_TOLD, "(panic|wrote) .*"
+TOLD = {"smc": EXIT, "leave": EXIT, "show": ("mem [0-9]+ [0-9a-f]{8} ([0-9a-f]{2})+",) * 2}
+TOLD |= {question: (ANY, ANY) for question in ("state", "session", "buffer", "events")}
+
+
 class Conversation:
-    """A conversation with a core of its own. `heard`, where it is given, is called with each line and its answer. With `watch` exits
+    """A conversation with a core of its own, whose program has so many seconds for each answer. `heard`, where it is given, is called with each line and its answer. With `watch` exits
     are watched, and `ram` has a copy of each processor's RAM, which is behind each answer what the core sees, up to a line
     `watch off`; else it is None. Meanwhile `panic` has the code of the panic in which the call of the last exit has ended, or None."""
 
-    def __init__(self, file=None, heard=None, watch=False):
-        self.heard, self.ram, self.panic = heard, None, None
-        path = program.found("optee_live", file)
-        self.process = subprocess.Popen([path], stdin=subprocess.PIPE, stdout=subprocess.PIPE)
+    def __init__(self, file=None, heard=None, watch=False, patience=PATIENCE):
+        self.heard, self.ram, self.panic, self.patience = heard, None, None, patience
+        self.file, self.read_ahead = program.found("optee_live", file), b""
+        self.process = program.started(self.file, stdin=subprocess.PIPE, stdout=subprocess.PIPE)
         if watch:
             self.ask("watch on")
             self.ram = []
@@ -108,7 +136,7 @@ class Conversation:
             self.process.stdin.flush()
         except BrokenPipeError:
             raise Over(self.process.wait()) from None
-        answer = self.answer()
+        answer = self.answer(line.partition(" ")[0])
         if self.ram is not None and answer.ending == "ok":
             self.copy(line, answer)
         if self.heard:
@@ -140,17 +168,43 @@ class Conversation:
         elif word == "wrote":
             put(self.ram[int(words[0])], *words[1:])
 
-    def answer(self):
-        """Reads an answer to the line that ends it."""
-        lines = []
+    def answer(self, word):
+        """Reads an answer to a line of this first word, to the line that ends it."""
+        lines, until = [], time.monotonic() + self.patience
         while True:
-            line = self.process.stdout.readline().decode("latin-1")
-            if not line.endswith("\n"):
-                raise Over(self.process.wait())
-            line = line[:-1]
-            if line.split(" ")[0] in ("ok", "bad", "full"):
+            line = self.next_line(until)
+            if re.fullmatch("ok|bad [a-z]+|full [0-9]+", line):
                 return Answer(lines, line)
+            form = TOLD[word][min(len(lines), 1)] if word in TOLD else None
+            if form is None or not re.fullmatch(form, line):
+                self.stop(f"{self.file} doesn't answer as a conversation's program does: {plain(line[:80])}")
             lines.append(line)
+
+    def next_line(self, until):
+        """A line that is said before a moment."""
+        stream = self.process.stdout.fileno()
+        while b"\n" not in self.read_ahead:
+            if not select.select([stream], [], [], max(0, until - time.monotonic()))[0]:
+                self.stop(f"{self.file} has given no answer within {self.patience} seconds")
+            part = os.read(stream, PIPE_BYTES)
+            if not part:
+                raise Over(self.ended())
+            self.read_ahead += part
+        line, _, self.read_ahead = self.read_ahead.partition(b"\n")
+        return line.decode("latin-1")
+
+    def ended(self):
+        """The status of a program that says no more."""
+        try:
+            return self.process.wait(self.patience)
+        except subprocess.TimeoutExpired:
+            self.stop(f"{self.file} has closed its output, and runs on")
+
+    def stop(self, why):
+        """Stops the program."""
+        self.process.kill()
+        self.process.wait()
+        raise NoConversation(why)
 
     def ask(self, line):
         """Sends a line that is to be taken: the lines of its answer."""
@@ -185,6 +239,17 @@ class Conversation:
         """A processor writes bytes into its RAM."""
         self.ask(f"write {cpu} {address:x} {data.hex()}")
 
+    def place_of(self, cookie, offset):
+        """The address of a byte of a registered buffer, or None where the core doesn't keep the buffer, or it has no such byte."""
+        for told in self.ask(f"buffer {cookie:x}"):
+            word, *words = told.split(" ")
+            if word == "piece":
+                address, length = int(words[0], 16), int(words[1])
+                if offset < length:
+                    return address + offset
+                offset -= length
+        return None
+
     def state(self):
         """What the core keeps."""
         state = State([], set(), {}, {})
@@ -210,19 +275,36 @@ class Driver:
 
     def call(self, cpu, registers, steps=MOST_STEPS):
         """A processor calls, and returns until the call has ended: the registers of its last answer. A call that sleeps is resumed
-        at once, so the one that it waits for must not be left suspended."""
+        at once; where it then sleeps again, the call that it waits for is inside or left suspended, and it is Asleep."""
         answered = self.talk.smc(cpu, registers, steps)
         self.panic = self.talk.panic
         self.supplicant.begins(cpu, registers)
+        return self.serve(cpu, answered, steps)
+
+    def go_on(self, cpu, registers, steps=MOST_STEPS):
+        """A processor goes on with a call that was Asleep: likewise."""
+        answered = self.talk.smc(cpu, registers, steps)
+        self.panic = self.talk.panic
+        return self.serve(cpu, answered, steps)
+
+    def serve(self, cpu, answered, steps=MOST_STEPS):
+        """Serves the call of an answer to its end: the registers of the last one."""
+        has_slept = False
         while served := self.supplicant.serves(cpu, answered):
-            answered = self.talk.smc(cpu, served[0], steps)
+            returns, name = served
+            if name == "Sleep" and has_slept:
+                raise Asleep(cpu, returns)
+            has_slept = name == "Sleep"
+            answered = self.talk.smc(cpu, returns, steps)
             self.panic = self.panic if self.talk.panic is None else self.talk.panic
         return answered
 
 
 def registers_of(lines):
     """The registers of a line `ret`, which stands before all that is said of its exit where that is watched."""
-    return [int(register, 16) for register in lines[0].split(" ")[2:]]
+    if not lines or not re.fullmatch(REGISTERS_TOLD, lines[0]):
+        raise NoConversation(f"no line ret with eight registers is told: {plain(' '.join(lines[:1])):.80}")
+    return [int(register, 16) for register in lines[0].split(" ")[2:10]]
 
 
 def put(ram, address, digits):
@@ -254,17 +336,18 @@ class Prompt:
         self.options = options
         self.talk = Conversation(file, self.heard)
         self.play, self.number = plays.Play(), 0
-        self.script, self.supplicant = lift.Script(pathlib.Path()), Supplicant(self.talk)
+        self.script, self.driver = lift.Script(pathlib.Path()), Driver(self.talk)
+        self.inside, self.asleep = set(), []  # processors that are inside; calls that sleep
         self.typed = None
         self.sources = []  # the images that the script names, each with its map
 
     def heard(self, line, answer):
         """Prints a line and its answer. One that stands on the terminal isn't printed again."""
         if line != self.typed:
-            print(f"> {line}")
+            print(f"> {plain(line)}")
         self.typed = None
         for part in (*answer.lines, answer.ending):
-            print(f"< {part}")
+            print(f"< {plain(part)}")
         note = self.note(line, answer)
         if note and "notes" in self.options:
             print(f"  = {note}")
@@ -301,22 +384,38 @@ class Prompt:
     def note_image(self, words):
         """Keeps the image that a line of a script names, with its map."""
         if "script" in self.options and words[:1] == ["image"] and len(words) > 2:
-            digits = bytes.fromhex("".join(text_of(words[2]).split()))
+            path = self.script.folder / words[2]
+            digits = octets("".join(text_of(path).split()))
             if image.refusal(digits) is None:
-                self.sources.append((image.decode(digits), places.map_beside(words[2])))
+                self.sources.append((image.decode(digits), places.map_beside(path)))
 
     def serve(self, line, words):
-        """Sends a line of a call, and serves the call until it has ended."""
+        """Sends a line of a call, and serves the call until it has ended or sleeps; behind it those that slept before."""
         registers = self.registers(words) if words[0] != "leave" else None
         lines, ending = self.talk.send(line)
         if ending != "ok":
             return
         cpu = int(words[1])
+        (self.inside.discard if lines else self.inside.add)(cpu)
         if registers:
-            self.supplicant.begins(cpu, registers)
-        answered = registers_of(lines) if lines else None
-        while answered and (served := self.supplicant.serves(cpu, answered)):
-            answered = self.talk.smc(cpu, served[0])
+            self.driver.supplicant.begins(cpu, registers)
+        if lines:
+            self.until_it_sleeps(self.driver.serve, cpu, registers_of(lines))
+            self.go_on()
+
+    def go_on(self):
+        """Goes on with the calls that sleep and whose processors aren't inside."""
+        able = [call for call in self.asleep if call.cpu not in self.inside]
+        self.asleep = [call for call in self.asleep if call.cpu in self.inside]
+        for call in able:
+            self.until_it_sleeps(self.driver.go_on, call.cpu, call.registers)
+
+    def until_it_sleeps(self, serve, cpu, registers):
+        """Serves a call; one that sleeps is kept."""
+        try:
+            serve(cpu, registers)
+        except Asleep as asleep:
+            self.asleep.append(asleep)
 
     def registers(self, words):
         """The registers of an entry, or None where the line isn't of its form."""
@@ -354,9 +453,13 @@ class Prompt:
                 try:
                     self.take(text)
                 except (BadWords, Refused) as error:
-                    print(f"  {error}")
+                    print(f"  {plain(str(error))}")
         except Over as over:
-            return over.status
+            print(f"live.py: {over}", file=sys.stderr)
+            return over.status or 1
+        except NoConversation as wrong:
+            print(f"live.py: {wrong}", file=sys.stderr)
+            return 1
         except BrokenPipeError:  # nobody reads what is printed
             os.dup2(os.open(os.devnull, os.O_WRONLY), sys.stdout.fileno())
         return self.talk.close()

@@ -1,11 +1,14 @@
 """Where the programs lie that the tools run, and how one is run. It isn't run by itself."""
 
 import collections
+import os
 import pathlib
 import subprocess
+import tempfile
 
 from words import BadWords
 
+PATIENCE = 60  # seconds that a run may take
 CRATES = pathlib.Path(__file__).resolve().parent.parent / "crates"
 
 # What the program has written for some words and an input, and its status.
@@ -18,19 +21,38 @@ def found(name, file=None):
     if not path.is_file():
         how = f"`rt run` in crates/{name} builds one, and program=FILE names another"
         raise BadWords(f"{path} is no program: {how}")
+    if not os.access(path, os.X_OK):
+        raise BadWords(f"{path} is no program: it isn't executable")
     return path
+
+
+def started(path, *words, **streams):
+    """A program that runs, as subprocess.Popen has it."""
+    try:
+        return subprocess.Popen([path, *words], **streams)
+    except OSError as error:
+        raise BadWords(f"{path} is no program: {error.strerror}") from error
 
 
 class Program:
     """The program: what `rt run` has built, or the file that a word `program=FILE` names."""
 
-    def __init__(self, file=None):
-        self.file = found("optee_run", file)
+    def __init__(self, file=None, patience=PATIENCE):
+        self.file, self.patience = found("optee_run", file), patience
 
     def run(self, words, text):
-        """Runs it over an input; both the input and the output are bytes as text."""
-        done = subprocess.run([self.file, *words], input=text.encode("latin-1"), capture_output=True, check=False)
-        return Done(done.stdout.decode("latin-1"), done.returncode)
+        """Runs it over an input; both the input and the output are bytes as text. It is stopped where it takes too long."""
+        with tempfile.TemporaryFile() as given:
+            given.write(text.encode("latin-1"))
+            given.seek(0)
+            process = started(self.file, *words, stdin=given, stdout=subprocess.PIPE, stderr=subprocess.DEVNULL)
+        with process:
+            try:
+                output, _ = process.communicate(timeout=self.patience)
+            except subprocess.TimeoutExpired:
+                process.kill()
+                raise BadWords(f"{self.file} hasn't ended within {self.patience} seconds") from None
+        return Done(output.decode("latin-1"), process.returncode)
 
 
 def taken_from(words, name="program"):

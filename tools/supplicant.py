@@ -1,5 +1,6 @@
 """What the normal world does for calls that ask it for something, by docs/formats.md ("A resume", "Messages to the normal world"): over
-any RAM that can be read and written by `read(cpu, address, length)` and `write(cpu, address, data)`. It isn't run by itself."""
+any RAM that can be read and written by `read(cpu, address, length)` and `write(cpu, address, data)`, and that knows by
+`place_of(cookie, offset)` where a byte of a registered buffer is, or None. It isn't run by itself."""
 
 import collections
 import struct
@@ -85,16 +86,24 @@ class Supplicant:
         """A call waits so long. Here it doesn't."""
 
     def begins(self, cpu, registers, area=None):
-        """An entry with these registers is let in. The requests of a new call stand in its area, where it has one, whose address has
-        to be given where a cookie names the argument."""
+        """An entry with these registers is let in. The requests of a new call stand in its area, where it has one. It is the one that is
+        given, or lies behind the argument, which stands at an address or in the buffer of a cookie."""
+        self.begun.pop(cpu, None)
         if registers[0] != formats.RETURN_FROM_RPC:
-            has_area = registers[0] == formats.CALL_WITH_RPC_ARG
-            self.begun[cpu] = area, registers[1] << 32 | registers[2] if has_area else None
+            self.begun[cpu] = area, self.argument_of(registers) if area is None else None
+
+    def argument_of(self, registers):
+        """The address of the argument before an area, or None where the call brings no area."""
+        function, upper, lower, offset = [*registers, 0, 0, 0][:4]
+        if function == formats.CALL_WITH_REGD_ARG:
+            return self.ram.place_of(upper << 32 | lower, offset)
+        return upper << 32 | lower if function == formats.CALL_WITH_RPC_ARG else None
 
     def serves(self, cpu, answered):
         """Answers what a call asks for in the registers of its answer: the registers to return with, and the request's name, or
         None where it has ended."""
         if answered[0] not in formats.RPCS:
+            self.begun.pop(cpu, None)
             return None
         thread, client = answered[3], answered[7]
         if cpu in self.begun or thread not in self.lent:

@@ -5,6 +5,12 @@ import re
 import signal
 import sys
 
+if sys.version_info < (3, 10):
+    sys.exit(f"Python 3.10 or later is wanted, and this is {sys.version_info[0]}.{sys.version_info[1]}")
+
+CONTROLS = {code: f"\\x{code:02x}" for code in (*range(32), 127) if chr(code) not in "\t\n"}
+HELP = ("--help", "-h")
+
 
 class BadWords(Exception):
     """Words that a tool doesn't serve; the text says which."""
@@ -54,14 +60,24 @@ def text_of(name):
         raise BadWords(f"{name}: {error.strerror}") from error
 
 
+def plain(text):
+    """A text in which control characters stand as \\xNN, so that no terminal obeys them."""
+    return text.translate(CONTROLS)
+
+
 def run(main, doc, words=None):
     """Ends with the status of a tool's main over the words of its call, or, at words that it doesn't serve, with the usage line of
-    doc, and 2."""
+    doc, and 2. Where help is asked for, doc is printed."""
     signal.signal(signal.SIGPIPE, signal.SIG_DFL)
     sys.stdout.reconfigure(encoding="latin-1")
+    sys.stderr.reconfigure(errors="backslashreplace")
+    words = sys.argv[1:] if words is None else words
     try:
-        sys.exit(main(sys.argv[1:] if words is None else words))
+        if len(words) == 1 and words[0] in HELP:
+            print(doc.strip())
+            sys.exit(0)
+        sys.exit(main(words))
     except BadWords as error:
         usage = next(line for line in doc.splitlines() if line.startswith("usage: "))
-        print(f"{error}\n{usage}" if str(error) else usage, file=sys.stderr)
+        print(f"{plain(str(error))}\n{usage}" if str(error) else usage, file=sys.stderr)
         sys.exit(2)
