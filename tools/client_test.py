@@ -12,12 +12,14 @@ It prints a line for each script, with the number of its calls and of those that
 printed something else, with the names of results and origins. Of one that has ended in a panic it tells the code and the place, as the
 machine's tables have them, and by the map beside the image's file the function, file and line of the source.
 Status: 0 where all is as wanted; 1 where a line differs or is missing, a script isn't of its form, or the program ends with
-another status than 0; 2 at other words.
+another status than 0; 2 at other words; 5 where a folder has no script. bench_test.py runs these scripts too, beside traces and
+conversations.
 usage: client_test.py [program=FILE] SCRIPT|FOLDER..
 """
 
 import collections
 import pathlib
+import re
 import sys
 
 import client
@@ -26,7 +28,7 @@ import image
 import lift
 import places
 import program
-from words import BadWords, octets, run, text_of
+from words import BadWords, octets, plain, run, text_of
 
 MARK, CALLS = "#=", ("open", "invoke", "close")
 RESULTS = {name: result for result, name in formats.RESULTS.items()}
@@ -35,29 +37,36 @@ ORIGINS = {name: origin for origin, name in formats.ORIGINS.items()}
 PANICKED = "TARGET_DEAD TEE"
 MARKED = "image"  # the word of a line that names an image's file
 
-# A call of a script, and the line that is wanted of it, or None.
-Call = collections.namedtuple("Call", "text wanted")
+# A call of a script, the line that is wanted of it, or None, and the number of its own line in the script.
+Call = collections.namedtuple("Call", "text wanted place", defaults=[None])
 
 
 def calls_of(script):
     """The calls of a script, each with the line that is wanted of it."""
+    return placed_calls(enumerate(script.splitlines(), 1))
+
+
+def placed_calls(lines):
+    """Those of a script's lines, each behind its number."""
     calls = []
-    for line in script.splitlines():
+    for place, line in lines:
         if line.split(" ")[0] in CALLS:
-            calls.append(Call(line, None))
+            calls.append(Call(line, None, place))
         elif line.startswith(MARK):
             if not calls or calls[-1].wanted is not None:
-                raise lift.Fault(f"`{line}` stands behind no call")
-            calls[-1] = calls[-1]._replace(wanted=in_digits(line[len(MARK) :].strip()))
+                raise lift.Fault(f"line {place}: `{line}` stands behind no call")
+            calls[-1] = calls[-1]._replace(wanted=in_digits(line[len(MARK) :].strip(), place))
     return calls
 
 
-def in_digits(line):
-    """A line with its result and origin as digits, where they are names."""
+def in_digits(line, at):
+    """A wanted line, which stands at a place, with its result and origin as digits, where they are names."""
     words = line.split(" ")
-    for place, table in ((2, RESULTS), (3, ORIGINS)):
-        if len(words) > place and words[place] in table:
-            words[place] = f"{table[words[place]]:08x}"
+    for place, table, what in ((2, RESULTS, "result"), (3, ORIGINS, "origin")):
+        if len(words) > place:
+            if words[place] not in table and number_of(words[place]) is None:
+                raise lift.Fault(f"line {at}: {words[place]} is no {what} of docs/formats.md, and no eight digits")
+            words[place] = f"{table.get(words[place], number_of(words[place])):08x}"
     return " ".join(words)
 
 
@@ -120,15 +129,29 @@ def differing(calls, done, panics=()):
     return said
 
 
+def refusal_of(done, lines):
+    """What the program says of a script that it refuses, by the number of its line in the reader's own file; or None."""
+    bad = re.fullmatch(r"bad trace (\d+) (\w+)\n", done.output) if done.status == 3 else None
+    if bad is None:
+        return None
+    number, kind = int(bad[1]), bad[2]
+    place, line = lines[number - 1] if 0 < number <= len(lines) else (0, "")
+    return f"line {place}: bad trace, {kind}: {formats.FAULTS.get(kind, 'no known kind')}" + (f": {line:.80}" if line else "")
+
+
 def tested(path, runner):
     """The lines on one script, and whether all is as wanted."""
     text, folder = text_of(path), pathlib.Path(path).parent
     try:
-        script = lift.lifted(text, folder)
-        calls = calls_of(script)
+        lines = lift.placed(text, folder)
+        calls = placed_calls(lines)
     except lift.Fault as fault:
-        return [f"{path}: {fault}"], False
+        return [plain(f"{path}: {fault}")], False
+    script = "".join(f"{line}\n" for _, line in lines)
     done = runner.run(["client"], script)
+    refused = refusal_of(done, lines)
+    if refused:
+        return [plain(f"{path}: {refused}")], False
     said = differing(calls, done)
     if any(PANICKED in line for line in said):
         said = differing(calls, done, panics_of(script, done.output.splitlines(), maps_of(text, folder)))
@@ -150,11 +173,14 @@ def main(words):
     if not words:
         raise BadWords()
     runner = program.Program(file)
-    is_good = True
-    for path in scripts_of(words):
+    is_good, scripts = True, list(scripts_of(words))
+    for path in scripts:
         lines, is_as_wanted = tested(path, runner)
         is_good = is_good and is_as_wanted
         print("\n".join(lines))
+    if not scripts:
+        print("no script was found: their names end with .client", file=sys.stderr)
+        return 5
     return 0 if is_good else 1
 
 

@@ -123,16 +123,21 @@ def call(cpu, steps, function, *operands):
     return [cpu, steps, *registers]
 
 
-def lifted(text, folder):
-    """The text of the trace that a script makes."""
+def placed(text, folder):
+    """The lines of the trace that a script makes, each behind the number of the script's line that makes it."""
     script = Script(folder)
     lines = []
     for place, line in enumerate(text.splitlines(), 1):
         try:
-            lines += script.lift(line)
+            lines += [(place, made) for made in script.lift(line)]
         except BadWords as error:
             raise Fault(f"line {place}: {error}") from error
-    return "".join(f"{line}\n" for line in lines)
+    return lines
+
+
+def lifted(text, folder):
+    """The text of the trace that a script makes."""
+    return "".join(f"{line}\n" for _, line in placed(text, folder))
 
 
 def main(words):

@@ -21,7 +21,9 @@ import tempfile
 import threading
 import time
 
+import arg
 import conversations
+import formats
 import live
 import program
 import shipped
@@ -44,6 +46,8 @@ REFUSED = [
     "questions-of-a-cancelled-wait",
 ]
 KEPT = {"sessions": 0, "buffers": 0, "pages": 1, "events": 2, "copied": 0}  # of a core of one page, behind a call
+SHARED = "11111111-2222-3333-4444-555555555555"  # an application whose sessions share one instance
+CALL = [formats.CALL_WITH_ARG, 0, live.RAM_START]
 ASKED = ["state", "session 1", "buffer 40010000", "events 0 3"]  # behind each line
 
 
@@ -213,6 +217,44 @@ def try_module(tests):
         tests.same("state", talk.state(), live.State([{"phase": "free"}], set(), {}, KEPT))
         talk.process.kill()
         tests.same("a program that has ended", refusal(talk.ask, "# a"), -9)
+    tests.same("registers of another line", refusal(live.registers_of, ["mem 0 40000000 00"]), live.NoConversation)
+    tests.same("a program that echoes", refusal(live.Conversation("/bin/cat").ask, "boot 1 1 1"), live.NoConversation)
+    with tempfile.TemporaryDirectory() as folder:
+        for what in ("read -r line; exec sleep 20", "exec cat > /dev/null"):
+            quiet = pathlib.Path(folder, "quiet")
+            quiet.write_text(f"#!/bin/sh\n{what}\n")
+            quiet.chmod(0o700)
+            tests.same(f"the program {what}", refusal(live.Conversation(quiet, patience=1).ask, "boot 1 1 1"), live.NoConversation)
+
+
+def try_sleepers(tests):
+    """A driver whose call sleeps, since the call that holds its instance is inside, says so, and goes on behind that one."""
+    with live.Conversation(tests.path) as talk:
+        digits = (shipped.EXAMPLES / "applications/wait.hex").read_text().strip()
+        for line in ("boot 2 2 4", f"ta {SHARED} {digits[:8]}0c{digits[10:]}"):
+            talk.ask(line)
+        driver = live.Driver(talk)
+        for words in (f"open {SHARED}", f"open {SHARED}"):
+            talk.write(0, live.RAM_START, arg.argument(words.split()))
+            driver.call(0, CALL)
+        for cpu in (0, 1):
+            talk.write(cpu, live.RAM_START, arg.argument(f"invoke {cpu + 1} 5".split()))
+        talk.ask("enter 0 1000 " + " ".join(f"{register:x}" for register in [*CALL, 0, 0, 0, 0, 0]))
+        try:
+            driver.call(1, CALL)
+        except live.Asleep as asleep:
+            driver.supplicant.begins(0, CALL)
+            tests.same("the holder", driver.serve(0, live.registers_of(talk.ask("leave 0"))), [0] * 8)
+            tests.same("the sleeper", driver.go_on(asleep.cpu, asleep.registers), [0] * 8)
+        results = [talk.read(cpu, live.RAM_START + 20, 8).hex() for cpu in (0, 1)]
+        tests.same("both results", results, ["0000000004000000"] * 2)
+
+
+def try_served(tests):
+    """The conversations of tools/served, whose calls are served."""
+    words = [sys.executable, "-B", shipped.ROOT / "tools/bench_test.py", f"live={tests.path}", shipped.ROOT / "tools/served"]
+    done = subprocess.run(words, capture_output=True, text=True, timeout=PATIENCE, check=False)
+    tests.same("tools/served", (done.returncode, done.stdout if done.returncode else ""), (0, ""))
 
 
 def try_questions(tests):
@@ -268,6 +310,8 @@ def refusal(ask, line):
         return refused.ending
     except live.Over as over:
         return over.status
+    except live.NoConversation:
+        return live.NoConversation
 
 
 def try_memory(tests):
@@ -331,6 +375,8 @@ TESTS = [
     try_other_streams,
     try_words,
     try_module,
+    try_sleepers,
+    try_served,
     try_questions,
     try_fuzzer,
     try_memory,
