@@ -9,6 +9,7 @@ Status: 0 where all agree, 1 where something doesn't, 2 at other words.
 usage: check.py [program=FILE] [live=FILE]
 """
 
+import collections
 import importlib
 import io
 import pathlib
@@ -20,6 +21,7 @@ import tempfile
 import annotate
 import answers
 import arg
+import bench_test
 import client
 import client_test
 import conversations
@@ -344,6 +346,36 @@ def check_clients(comparison):
     comparison.same("client_test.py at a line behind no call", given[0], 1)
 
 
+def check_runner(comparison):
+    """A script by bench_test.py: as it is, with each wanted line changed in turn, and a folder without a test."""
+    known, path = f"program={FOLDER / 'known.py'}", shipped.EXAMPLES / "storage_and_cancel.client"
+    script = shipped.read(path)
+    count = sum(line.startswith("#=") for line in script.splitlines())
+    status, printed, _ = tool("bench_test.py", known, path)
+    comparison.same("bench_test.py", (status, printed.splitlines()[-1]), (0, f"1 cases, 0 failed, {count} lines compared"))
+    played = expected_play(path)
+    calls = [call for call in client_test.placed_calls(lift.placed(script, path.parent)) if call.wanted]
+    comparison.same("bench_test.py: the calls", len(calls), count)
+    for number, (call, line) in enumerate(zip(calls, played.output.splitlines())):
+        note = plays.client_call(0, call.text.split(" "), collections.deque([line]))[1]
+        printed = bench_test.Printed(call.place, call.text, line, note, lambda other: None)
+        words = line.split(" ")
+        other = " ".join([*words[:2], "ffff0000", *words[3:]])
+        comparison.same(f"bench_test.py at line {number}", bench_test.compared(line, printed), None)
+        comparison.same(f"bench_test.py at the front of line {number}", bench_test.compared(f"{words[0]} ..", printed), None)
+        said = bench_test.compared(other, printed)
+        comparison.same(f"bench_test.py at another result, {number}", said and (said.place, said.differs[:8]), (call.place, "result: "))
+        said = bench_test.compared("= nothing", printed)
+        comparison.same(f"bench_test.py at another note, {number}", said and said.got, [line, f"= {note}"])
+    with tempfile.TemporaryDirectory() as folder:
+        comparison.same("bench_test.py at no test", tool("bench_test.py", known, folder)[0], bench_test.NO_CASE)
+
+
+def expected_play(path):
+    """A shipped example with its output."""
+    return shipped.Play(path.stem, shipped.read(path), shipped.read(path.with_suffix(".out")), 0)
+
+
 def check_applications_in_c(comparison):
     """The shipped images of applications in C: their texts, whose comments are those of their maps, and their scripts by the machine's
     table, with each result that they want; a panic with its line."""
@@ -503,6 +535,7 @@ CHECKS = [
     check_examples,
     check_machine,
     check_clients,
+    check_runner,
     check_applications_in_c,
     check_scripts,
     check_conversations,

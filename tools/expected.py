@@ -423,6 +423,7 @@ BAD_WORDS = {
     "check.py": ["x"],
     "chart.py": ["", "a b c", "program=no_such_file a", "no_such_file no_such_file"],
     "client_test.py": ["", "program=no_such_file examples"],
+    "bench_test.py": ["", "program=no_such_file examples", "no_such_file", "-j"],
     "known.py": [""],
     "known_live.py": ["x"],
     "live.py": ["x", "serve serve", "program=no_such_file", "boot=no_such_file"],
