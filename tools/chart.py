@@ -7,21 +7,29 @@ answer at the exit; the small numbers are the places of both in the core's one h
 dark while a processor works on it and light while it is suspended; it is striped while it sleeps until its instance is free.
 Requests and results have names where the trace shows their bytes.
 
+A trace with signals, a script of a client or for lift.py, a play that was refused, and one without a call aren't drawn.
+
+--perfetto FILE writes the same as events for the viewers of Chrome (chrome://tracing) and Perfetto (ui.perfetto.dev): processors and slots
+are their threads, and a place in the history is a microsecond.
+
 Without OUTPUT the program plays the trace, and lines `show` are put behind its calls, so that each request and result has its
 name. The program is what `rt run` has built in crates/optee_run, or FILE.
-Status: 0, 1 where the output isn't that of the trace; 2 at other words.
-usage: chart.py [program=FILE] TRACE [OUTPUT]
+Status: 0, 1 where the output isn't that of the trace, or nothing can be drawn; 2 at other words.
+usage: chart.py [program=FILE] [--perfetto FILE] TRACE [OUTPUT]
 """
 
 import collections
 import html
+import json
+import pathlib
+import re
 import sys
 
 import formats
 import plays
 import program
 import story
-from words import BadWords, run, text_of
+from words import BadWords, plain, run, text_of
 
 LEFT, INSIDE, OUTSIDE, BAND = 76, 96, 16, 980
 LANE, SLOT, TITLE, GAP = 74, 22, 16, 22
@@ -193,28 +201,104 @@ def shows_behind(visit, told):
 
 def played(trace, runner):
     """A trace and its output, with lines `show` of its requests and results."""
-    output = runner.run(["run"], trace).output
-    plays.lay_out(trace, output)
+    done = runner.run(["run"], trace)
+    output = done.output
+    refuse_refused(output)
+    if done.status:
+        raise plays.Mismatch(f"the program {runner.file} has ended with status {done.status}")
+    try:
+        plays.lay_out(trace, output)
+    except plays.Mismatch as mismatch:
+        raise plays.Mismatch(f"{mismatch}: {runner.file} isn't the program of crates/optee_run") from mismatch
     shown = with_shows(trace, output)
     return shown, runner.run(["run"], shown).output
 
 
+def refuse_others(trace):
+    """A Mismatch where an item of the trace is none that is drawn."""
+    for place, line in enumerate(trace.splitlines(), 1):
+        word = line.split(" ")[0]
+        if word == "signal":
+            raise plays.Mismatch(f"line {place}: a trace with signals isn't drawn: it has no place for them")
+        if word in plays.CLIENT_CALLS:
+            raise plays.Mismatch(f"line {place}: a client's script isn't drawn: a trace of its calls would be")
+        plays.refuse_script(place, line)
+
+
+def refuse_none(trace):
+    """A Mismatch where the trace has no call."""
+    if not any(line.split(" ")[0] in ("smc", "enter") for line in trace.splitlines()):
+        raise plays.Mismatch("there is no smc and no enter, so nothing is to be drawn")
+
+
+def refuse_refused(output):
+    """A Mismatch where a play was refused."""
+    bad = re.fullmatch(r"bad trace (\d+) (\w+)\n", output)
+    if bad:
+        raise plays.Mismatch(f"line {bad[1]}: the trace was refused, {bad[2]}: {formats.FAULTS.get(bad[2], 'no known kind')}")
+
+
+PROCESSORS, SLOTS = 1, 2  # as processes of a viewer
+
+
+def traced(told):
+    """The story as JSON in the trace format of Chrome: complete events, whose times are places in the history."""
+    rows = {(PROCESSORS, int(visit.cpu)) for visit in told.visits} | {(SLOTS, call.slot) for call in told.calls}
+    events = [named("process_name", pid, 0, name) for pid, name in ((PROCESSORS, "processors"), (SLOTS, "slots"))]
+    events += [named("thread_name", pid, row, f"{'processor' if pid == PROCESSORS else 'slot'} {row}") for pid, row in sorted(rows)]
+    for visit in told.visits:
+        events.append(event(PROCESSORS, int(visit.cpu), visit.said, visit.entry, visit.exit, answer=visit.given))
+    for call in told.calls:
+        events.append(event(SLOTS, call.slot, call.text, call.first, told.length if call.last is None else call.last))
+        events += [event(SLOTS, call.slot, ["sleeps"], first, last) for first, last in sleeps_of(call, told)]
+    return json.dumps({"traceEvents": events}, indent=1) + "\n"
+
+
+def event(group, row, words, first, last, **details):
+    """An event from one place of the history to another."""
+    return {"name": " ".join(words).strip(), "ph": "X", "pid": group, "tid": row, "ts": first, "dur": last - first, "args": details}
+
+
+def named(kind, group, row, name):
+    """The name of a process or of a thread in a viewer."""
+    return {"name": kind, "ph": "M", "pid": group, "tid": row, "args": {"name": name}}
+
+
+def file_behind(words, option):
+    """The file that stands behind an option, both taken away, or None."""
+    if option not in words:
+        return None
+    at = words.index(option)
+    if at + 1 == len(words):
+        raise BadWords(f"a file is wanted behind {option}")
+    del words[at]
+    return words.pop(at)
+
+
 def main(words):
     words = list(words)
-    file = program.taken_from(words)
+    file, viewed = program.taken_from(words), file_behind(words, "--perfetto")
     if len(words) not in (1, 2):
         raise BadWords()
     trace = text_of(words[0])
     try:
+        refuse_others(trace)
         if len(words) == 1:
             trace, output = played(trace, program.Program(file))
         else:
             output = text_of(words[1])
+        plays.refuse_swapped(trace, output)
+        refuse_refused(output)
+        refuse_none(trace)
         if not output.startswith("cpu "):
             plays.lay_out(trace, output)
-        print(chart(story.Story(story.visits_of(trace, output))), end="")
+        told = story.Story(story.visits_of(trace, output))
+        if viewed:
+            pathlib.Path(viewed).write_text(traced(told), encoding="utf-8")
+        else:
+            print(chart(told), end="")
     except (plays.Mismatch, ValueError, IndexError, KeyError) as mismatch:
-        print(f"chart.py: {mismatch}", file=sys.stderr)
+        print(f"chart.py: {plain(str(mismatch))}", file=sys.stderr)
         return 1
     return 0
 

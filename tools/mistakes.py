@@ -29,7 +29,7 @@ FILES = {
     "refused.trace": "boot 1 1\n",
     "refused.out": "bad trace 1 count\n",
     "bad_address.trace": BOOT + "smc 0 1 32000004 0 10000000 0 0 0 0 0\n",
-    "bad_address.out": "ret 0 00000006 00000000 00000000 00000000 00000000 00000000 00000000 00000000\n",
+    "bad_address.out": "ret 0 00000004 00000000 00000000 00000000 00000000 00000000 00000000 00000000\n",
     "empty": "",
     "junk": "\x00\x01\xff\x1b[31mjunk\x07\n",
     "odd.hex": "4f5",

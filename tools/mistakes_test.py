@@ -24,7 +24,7 @@ import shipped
 from words import BadWords, number, run
 
 FOLDER = shipped.ROOT / "tools"
-PATIENCE = 30
+PATIENCE = 100
 CODES = re.compile(r"[\x00-\x08\x0b-\x1f\x7f-\x9f]")
 
 

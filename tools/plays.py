@@ -15,6 +15,8 @@ Entry = collections.namedtuple("Entry", "number text printed note answer result"
 
 HEADER = ("boot", "ta", "mem", "key")
 CLIENT_CALLS = ("open", "invoke", "close")  # the calls of a client's script
+SCRIPTS = ("name", "argument", "image", "reply")  # the words of a script for lift.py
+OUTPUTS = re.compile("(ret|mem|bad trace|cpu|open|invoke|close) ")  # what a play prints begins so
 RET = r"ret {}((?: [0-9a-f]{{8}}){{8}})"
 
 
@@ -39,13 +41,29 @@ def of_files(trace, output):
 
 def lay_out(trace, output):
     """An Entry for each line of the trace; between them they use up the output, or it is a Mismatch."""
+    refuse_swapped(trace, output)
     lines = list(enumerate(trace.removesuffix("\n").split("\n") if trace else [], 1))
+    for place, line in lines:
+        refuse_script(place, line)
     bad = re.fullmatch(r"bad trace (\d+) (\w+)\n", output)
     if bad:
         return list(with_fault(lines, int(bad[1]), output[:-1], bad[2]))
     if output.startswith("cpu "):
         return in_blocks(lines, output)
     return laid(Play(), lines, collections.deque(output.splitlines()))
+
+
+def refuse_script(place, line):
+    """A Mismatch where a line is one of a script for lift.py."""
+    word, *words = line.split(" ")
+    if word in SCRIPTS or word in ("smc", "enter") and words[2:3] and words[2] in formats.FUNCTIONS.values():
+        raise Mismatch(f"line {place} is one of a script: lift.py makes a trace of it")
+
+
+def refuse_swapped(trace, output):
+    """A Mismatch where the trace is what a play has printed, and the output a trace."""
+    if OUTPUTS.match(trace) and output.split(" ")[0] in ("boot", "#"):
+        raise Mismatch("OUTPUT is a trace, and TRACE what was printed: they are swapped")
 
 
 def laid(play, lines, printed):

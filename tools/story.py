@@ -169,7 +169,7 @@ class Story:
         visit.said = self.entry_text(visit)
         if visit.is_new_call and visit.answer not in REFUSED:
             slot = next(number for number in range(2**32) if number not in self.held)
-            call = self.held[slot] = Call(slot, visit.head.text(), visit.entry)
+            call = self.held[slot] = Call(slot, head_text(visit), visit.entry)
             self.calls.append(call)
         elif visit.is_resume and visit.answer != "ERESUME":
             slot = visit.registers[3]
@@ -183,7 +183,7 @@ class Story:
     def entry_text(self, visit):
         """What an entry says: its function, and of a call or a return some more."""
         if visit.is_new_call:
-            return visit.head.text()
+            return head_text(visit)
         if visit.is_resume:
             return "return", self.reply_text(visit)
         return formats.FUNCTIONS.get(visit.function, f"{visit.function:08x}"), ""
@@ -236,6 +236,14 @@ class Story:
         if visit.answered[1:3] == [0, 0]:
             return head.address + formats.HEAD_BYTES + formats.PARAMETER_BYTES * head.fields["num_params"]
         return self.buffers.get(visit.slot, 0)
+
+
+def head_text(visit):
+    """What a new call asks for; where its argument isn't at an address at which the core has read one, its function."""
+    if visit.answer == "EBADADDR" or visit.function == formats.CALL_WITH_REGD_ARG:
+        what = "cookie" if visit.function == formats.CALL_WITH_REGD_ARG else "at"
+        return formats.FUNCTIONS[visit.function], f"{what} {visit.head.address:x}"
+    return visit.head.text()
 
 
 def number_in(known, address, size):
