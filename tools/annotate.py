@@ -19,7 +19,7 @@ import sys
 
 import journal
 import plays
-from words import BadWords, run, text_of
+from words import BadWords, plain, run, text_of
 
 INDENT = "    "
 LONG = re.compile("((?:ta|mem) [^ ]+) ([0-9a-fA-F]{64,})")
@@ -48,9 +48,9 @@ def main(words):
         raise BadWords()
     try:
         entries = plays.of_files(*words) if len(words) == 2 else journal.told(text_of(words[0]).encode("latin-1"))
-        print(annotated(entries), end="")
+        print(plain(annotated(entries)), end="")
     except plays.Mismatch as mismatch:
-        print(f"annotate.py: {mismatch}", file=sys.stderr)
+        print(f"annotate.py: {plain(str(mismatch))}", file=sys.stderr)
         return 1
     return 0
 

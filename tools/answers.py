@@ -14,7 +14,7 @@ import collections
 import sys
 
 import plays
-from words import BadWords, run
+from words import BadWords, plain, run
 
 
 def counted(entries):
@@ -34,7 +34,7 @@ def main(words):
     try:
         print(counted(plays.of_files(*words)), end="")
     except plays.Mismatch as mismatch:
-        print(f"answers.py: {mismatch}", file=sys.stderr)
+        print(f"answers.py: {plain(str(mismatch))}", file=sys.stderr)
         return 1
     return 0
 

@@ -59,7 +59,7 @@ def reply(words):
 def take(words, form, what="word", **bits):
     """The first word, taken away, in its form."""
     if not words:
-        raise BadWords(f"another {what} is wanted")
+        raise BadWords(f"{what} is wanted, and no word is left")
     word = words.pop(0)
     value = form(word, **bits)
     if value is None:
@@ -82,7 +82,7 @@ def argument_bytes(command, function=0, session=0, cancel_id=0, parameters=()):
 
 
 def open_session(words):
-    application = take(words, uuid)
+    application = take(words, uuid, "UUID")
     options = {"client": bytes(16), "login": 0, "id": 0} | options_of(words, ["client", "login", "id"])
     metas = [meta(application, 0), meta(options["client"], options["login"])]
     return argument_bytes("OPEN_SESSION", 0, 0, options["id"], metas + parameters_of(words))
@@ -93,27 +93,28 @@ def meta(octets_of_uuid, login):
 
 
 def invoke(words):
-    session, function = take(words, number), take(words, number)
+    session, function = take(words, number, "SESSION"), take(words, number, "FUNCTION")
     cancel_id = options_of(words, ["id"]).get("id", 0)
     return argument_bytes("INVOKE_COMMAND", function, session, cancel_id, parameters_of(words))
 
 
 def close(words):
-    return argument_bytes("CLOSE_SESSION", 0, take(words, number))
+    return argument_bytes("CLOSE_SESSION", 0, take(words, number, "SESSION"))
 
 
 def cancel(words):
-    return argument_bytes("CANCEL", 0, take(words, number), take(words, number))
+    return argument_bytes("CANCEL", 0, take(words, number, "SESSION"), take(words, number, "ID"))
 
 
 def register(words):
-    pointer, size, cookie = take(words, hexadecimal), take(words, number, bits=64), take(words, hexadecimal)
+    pointer, size = take(words, hexadecimal, "POINTER"), take(words, number, "SIZE", bits=64)
+    cookie = take(words, hexadecimal, "COOKIE")
     attribute = formats.NONCONTIG | ATTRIBUTES["tmem_out"]
     return argument_bytes("REGISTER_SHM", parameters=[(attribute, pointer, size, cookie)])
 
 
 def unregister(words):
-    return argument_bytes("UNREGISTER_SHM", parameters=[(ATTRIBUTES["rmem_in"], 0, 0, take(words, hexadecimal))])
+    return argument_bytes("UNREGISTER_SHM", parameters=[(ATTRIBUTES["rmem_in"], 0, 0, take(words, hexadecimal, "COOKIE"))])
 
 
 CALLS = {
@@ -143,13 +144,16 @@ def parameters_of(words):
     return parameters
 
 
+KINDS = "none, value_, rmem_, tmem_ and list_in, _out and _inout, as value_inout, and null_in, null_out and null_inout"
+
+
 def parameter(kind, words):
     family, _, way = kind.partition("_")
     memory = ATTRIBUTES.get(f"tmem_{way}")
     if kind in ("none", "value_out"):
         return ATTRIBUTES[kind], 0, 0, 0
     if kind in ATTRIBUTES and family == "value":
-        return ATTRIBUTES[kind], take(words, number, bits=64), take(words, number, bits=64), 0
+        return ATTRIBUTES[kind], take(words, number, f"of {kind} A B: A", bits=64), take(words, number, f"of {kind} A B: B", bits=64), 0
     if kind in ATTRIBUTES and family == "rmem":
         return ATTRIBUTES[kind], take(words, number, bits=64), take(words, number, bits=64), take(words, hexadecimal)
     if memory and family == "tmem":
@@ -158,19 +162,21 @@ def parameter(kind, words):
         return formats.NONCONTIG | memory, take(words, hexadecimal), take(words, number, bits=64), 0
     if memory and family == "null":
         return memory, 0, 0, 0
-    raise BadWords(f"{kind} is no kind of parameter")
+    raise BadWords(f"{kind} is no kind of parameter: they are {KINDS}")
 
 
 def reply_ret(words):
-    return [ret(take(words, result))]
+    return [ret(take(words, result, "RESULT"))]
 
 
 def result(word):
+    if word not in RESULTS and not word[:1].isdecimal():
+        raise BadWords(f"{word} is no result of docs/formats.md, as SUCCESS, and no number")
     return RESULTS[word] if word in RESULTS else number(word)
 
 
 def reply_time(words):
-    seconds, nanoseconds = take(words, number, bits=64), take(words, number, bits=64)
+    seconds, nanoseconds = take(words, number, "SECONDS", bits=64), take(words, number, "NANOSECONDS", bits=64)
     return [ret(0), (parameter_at(0, "p"), struct.pack("<2Q", seconds, nanoseconds))]
 
 

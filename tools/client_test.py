@@ -31,6 +31,7 @@ import program
 from words import BadWords, octets, plain, run, text_of
 
 MARK, CALLS = "#=", ("open", "invoke", "close")
+TRACED = ("smc", "enter", "leave", "write", "show", "signal")  # items that aren't of a client's script
 RESULTS = {name: result for result, name in formats.RESULTS.items()}
 ORIGINS = {name: origin for origin, name in formats.ORIGINS.items()}
 
@@ -147,6 +148,9 @@ def tested(path, runner):
         calls = placed_calls(lines)
     except lift.Fault as fault:
         return [plain(f"{path}: {fault}")], False
+    others = [f"line {place}: {line.split(' ')[0]} is an item of a trace, which bench_test.py runs" for place, line in lines if line.split(" ")[0] in TRACED]
+    if others or not calls:
+        return [plain(f"{path}: {others[0] if others else 'no call stands in it'}")], False
     script = "".join(f"{line}\n" for _, line in lines)
     done = runner.run(["client"], script)
     refused = refusal_of(done, lines)
@@ -155,6 +159,8 @@ def tested(path, runner):
     said = differing(calls, done)
     if any(PANICKED in line for line in said):
         said = differing(calls, done, panics_of(script, done.output.splitlines(), maps_of(text, folder)))
+    if done.status not in (0, 3):
+        said.append(f"  it was {runner.file}: is that the program of crates/optee_run?")
     compared = sum(call.wanted is not None for call in calls)
     verdict = "differs" if said else "ok"
     return [f"{path}: {verdict}, {len(calls)} calls, {compared} compared", *said], not said

@@ -3,7 +3,7 @@
 
 It needs a C compiler: the one that CC names, or else cc, gcc or clang. Where there is none it says so, and does nothing
 else. What is built lies in a folder of its own, and goes away.
-Status: 0 where all that is printed is what is wanted, or there is no compiler; 1 where something isn't; 2 at words.
+Status: 0 where all that is printed is what is wanted, or there is no compiler; 1 where something isn't, or there is no `rt`; 2 at words.
 usage: embed.py
 """
 
@@ -34,6 +34,9 @@ def main(words):
     if cc is None:
         print("no C compiler: nothing was built")
         return 0
+    if shutil.which("rt") is None:
+        print("embed.py: rt, the command of the toolchain that builds the library, isn't in PATH", file=sys.stderr)
+        return 1
     subprocess.run(["rt", "lib"], cwd=CRATE, check=True, stdout=sys.stderr)
     with tempfile.TemporaryDirectory() as folder:
         subprocess.run(["make", "-s", f"CC={cc}", f"OUT={folder}"], cwd=EMBED, check=True)

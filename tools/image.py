@@ -11,13 +11,13 @@ usage: image.py [comments] [map=FILE] < IMAGE
 """
 
 import collections
+import re
 import struct
-import sys
 
 import formats
 import places
 import program
-from words import BadWords, octets, run
+from words import BadWords, octets, run, text_of
 
 Image = collections.namedtuple("Image", "flags pages entries code")
 Instruction = collections.namedtuple("Instruction", "op d a b imm")
@@ -118,13 +118,21 @@ def instruction_text(instruction):
     return " ".join([name, *operands])
 
 
+def digits_of(name):
+    """The bytes of an image's digits, in a file or on standard input."""
+    digits = "".join(text_of(name).split())
+    if not re.fullmatch("[0-9a-fA-F]+", digits):
+        raise BadWords(f"an image's hexadecimal digits are wanted, and not {digits[:20] or 'nothing'}: `optee_run asm` makes them of a text")
+    return octets(digits)
+
+
 def main(words):
     words = list(words)
     named = program.taken_from(words, "map")
     if words not in ([], ["comments"]):
         raise BadWords()
     source = places.map_of(named) if named else None
-    data = octets("".join(sys.stdin.read().split()))
+    data = digits_of("-")
     refused = refusal(data)
     if refused:
         print(f"{refused[0]}: {refused[1]}")

@@ -77,7 +77,7 @@ def told(data):
     reader, entries = Reader(data), []
     while reader.at < len(data) or not entries:
         if reader.take(4) != MAGIC:
-            raise plays.Mismatch("these bytes aren't a journal")
+            raise plays.Mismatch("these bytes aren't a journal; behind a trace OUTPUT is wanted")
         teller = Teller(reader)
         while (tag := reader.take(1)[0]) != END:
             if tag not in TAGS:

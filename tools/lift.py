@@ -25,9 +25,10 @@ import sys
 
 import arg
 import formats
-from words import BadWords, hexadecimal, number, octets, run, text_of
+from words import BadWords, hexadecimal, number, octets, plain, run, text_of
 
 FUNCTIONS = {name: function for function, name in formats.FUNCTIONS.items()}
+ITEMS = [*dict.fromkeys([*formats.LINES, "signal", "open", "invoke", "close"])]
 WIDE = {"argument": 1, "buffer": 1, "cookie": 4}  # in two registers, the upper half first
 OPERANDS = WIDE | {"thread": 3, "client": 7} | {f"a{i}": i for i in range(1, 8)}
 
@@ -55,7 +56,7 @@ class Script:
         try:
             inspect.signature(FORMS[item]).bind(self, *words)
         except TypeError as error:
-            raise BadWords(f"{item}: {error}") from error
+            raise BadWords(f"{item} has other words than its form: {USES[item]}") from error
         return FORMS[item](self, *words)
 
     def named(self, line):
@@ -99,6 +100,15 @@ class Script:
         return [" ".join(["write", cpu, address, *words])]
 
 
+USES = {
+    "name": "name NAME WORD..",
+    "argument": "argument NAME WORD..",
+    "image": "image NAME FILE [flags N]",
+    "smc": "smc CPU STEPS CALL [OPERAND=VALUE]..",
+    "enter": "enter CPU STEPS CALL [OPERAND=VALUE]..",
+    "reply": "reply CPU ADDRESS WORD..",
+    "write": "write CPU ADDRESS HEX",
+}
 FORMS = {form: getattr(Script, form) for form in ["name", "argument", "image", "smc", "enter", "reply", "write"]}
 
 
@@ -113,7 +123,7 @@ def call(cpu, steps, function, *operands):
     for operand in operands:
         name, _, value = operand.partition("=")
         if name not in OPERANDS:
-            raise BadWords(f"{name} is no operand")
+            raise BadWords(f"{name} is no operand: they are {', '.join(OPERANDS)}")
         register = OPERANDS[name]
         if name in WIDE:
             wide = hexadecimal(value)
@@ -123,6 +133,13 @@ def call(cpu, steps, function, *operands):
     return [cpu, steps, *registers]
 
 
+def refuse_unknown(line):
+    """Refuses a line whose first word is none of a trace, with or without signals, or of a client's script."""
+    word = line.split(" ")[0]
+    if word and word[0] != "#" and word not in ITEMS:
+        raise BadWords(f"{word} is no item: they are {', '.join(ITEMS)}")
+
+
 def placed(text, folder):
     """The lines of the trace that a script makes, each behind the number of the script's line that makes it."""
     script = Script(folder)
@@ -130,6 +147,7 @@ def placed(text, folder):
     for place, line in enumerate(text.splitlines(), 1):
         try:
             lines += [(place, made) for made in script.lift(line)]
+            refuse_unknown(lines[-1][1] if lines else "")
         except BadWords as error:
             raise Fault(f"line {place}: {error}") from error
     return lines
@@ -147,7 +165,7 @@ def main(words):
     try:
         print(lifted(text, pathlib.Path(words[0]).parent), end="")
     except Fault as error:
-        print(f"lift.py: {error}", file=sys.stderr)
+        print(f"lift.py: {plain(str(error))}", file=sys.stderr)
         return 1
     return 0
 

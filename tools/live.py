@@ -469,7 +469,9 @@ def fault_of(line, kind):
     """What a fault of this kind is in a line, or usually is."""
     if kind == "item" and line.split(" ")[0] == "watch":
         return "neither on nor off stands behind watch"
-    return FAULTS.get(kind) or formats.FAULTS.get(kind, "no known kind")
+    named = [word for word in line.split(" ") if word in formats.FUNCTIONS.values()]
+    hint = f"; {named[0]} is a name, which live.py takes by the word script" if named else ""
+    return (FAULTS.get(kind) or formats.FAULTS.get(kind, "no known kind")) + hint
 
 
 FAULTS = {
@@ -490,8 +492,9 @@ def described_by(path):
 def main(words):
     words = list(words)
     file, path = program.taken_from(words), program.taken_from(words, "boot")
-    if len(set(words)) != len(words) or not set(words) <= set(OPTIONS):
-        raise BadWords()
+    for word in words:
+        if word not in OPTIONS or words.count(word) > 1:
+            raise BadWords(f"{word} isn't served here, or stands twice: the words are {', '.join(OPTIONS)}")
     described = described_by(path) if path is not None else None
     signal.signal(signal.SIGPIPE, signal.SIG_IGN)  # a program that has ended is told by its status
     prompt = Prompt(file or described and described.program, words)

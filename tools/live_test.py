@@ -390,7 +390,13 @@ def main(words):
         raise BadWords()
     signal.signal(signal.SIGPIPE, signal.SIG_IGN)
     comparison = Comparison()
-    tests = Tests(program.found("optee_live", file), comparison)
+    path = program.found("optee_live", file)
+    try:
+        with live.Conversation(path, patience=PATIENCE) as talk:
+            talk.ask("boot 1 1 1")
+    except (live.Over, live.NoConversation, live.Refused) as error:
+        raise BadWords(f"{path} holds no conversation: {error}") from error
+    tests = Tests(path, comparison)
     for test in TESTS:
         try:
             test(tests)

@@ -46,7 +46,7 @@ def runs_of(words):
     while words:
         entry = words.popleft()
         if entry not in formats.ENTRIES:
-            raise BadWords(f"{entry} is no entry point")
+            raise BadWords(f"{entry} is no entry point: they are {', '.join(formats.ENTRIES)}")
         function = [hexadecimal(words.popleft(), 32)] if entry == "invoke" and words else []
         if entry == "invoke" and not function:
             raise BadWords("invoke has no function")
@@ -72,7 +72,7 @@ def operands_of(words, most):
         elif re.fullmatch(PARAMETER, word) and machine.parameter_of(word) and len(parameters) < most:
             parameters.append(machine.parameter_of(word))
         else:
-            raise BadWords(f"{word} isn't served here")
+            raise BadWords(f"{word} is no parameter here (none, vi:A:B, vo, vio:A:B, mi:HEX, mo:LEN, mio:HEX), no register r0=HEX to r15=HEX, and not cancelled")
     return changed, parameters, flags
 
 
@@ -161,7 +161,7 @@ def session_steps(digits, words, source):
 def main(words):
     if len(words) < 2:
         raise BadWords()
-    digits = octets("".join(text_of(words[0]).split()))
+    digits = image.digits_of(words[0])
     refused = image.refusal(digits)
     if refused:
         print(f"{refused[0]}: {refused[1]}")
