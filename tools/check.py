@@ -405,6 +405,8 @@ def check_scripts(comparison):
         status, printed, _ = tool("lift.py", path)
         trace = shipped.read(shipped.EXAMPLES / f"{path.stem}.trace")
         comparison.same(f"lift.py {path.name}", (status, items(printed)), (0, items(trace)))
+    for name, digits in (("ENABLE_ASYNC_NOTIF", "b2000010"), ("GET_ASYNC_NOTIF_VALUE", "b2000011")):
+        comparison.same(f"lift.py at {name}", lift.lifted(f"smc 0 1 {name}\n", shipped.SCRIPTS), f"smc 0 1 {digits}{7 * ' 0'}\n")
     for line in expected.BAD_SCRIPTS:
         status, _, said = tool("lift.py", "-", text=f"boot 1 1 1\n{line}\n")
         comparison.same(f"lift.py at {line}", (status, said.startswith("lift.py: line 2:")), (1, True))

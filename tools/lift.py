@@ -27,7 +27,7 @@ import arg
 import formats
 from words import BadWords, hexadecimal, number, octets, plain, run, text_of
 
-FUNCTIONS = {name: function for function, name in formats.FUNCTIONS.items()}
+FUNCTIONS = {name: function for function, name in (formats.FUNCTIONS | formats.NOTIFY_FUNCTIONS).items()}
 ITEMS = [*dict.fromkeys([*formats.LINES, "signal", "open", "invoke", "close"])]
 WIDE = {"argument": 1, "buffer": 1, "cookie": 4}  # in two registers, the upper half first
 OPERANDS = WIDE | {"thread": 3, "client": 7} | {f"a{i}": i for i in range(1, 8)}
