@@ -95,7 +95,7 @@ class Asleep(Exception):
 # What stands in the answer to a line of its first word: the form of the first line, and of those behind it. To others stands nothing.
 REGISTERS_TOLD, ANY = "ret [0-9]+( [0-9a-f]{8}){8}( [0-9]+ [0-9]+)?", "[a-z]+( .*)?"
 EXIT = REGISTERS_TOLD, "(panic|wrote) .*"
-TOLD = {"smc": EXIT, "leave": EXIT, "show": ("mem [0-9]+ [0-9a-f]{8} ([0-9a-f]{2})+",) * 2}
+TOLD = {"smc": EXIT, "leave": EXIT, "show": ("mem [0-9]+ [0-9a-f]{8} [0-9a-f]+",) * 2}
 TOLD |= {question: (ANY, ANY) for question in ("state", "session", "buffer", "events")}
 
 
