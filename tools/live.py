@@ -8,7 +8,8 @@ Words, in any order:
                 live.py is called in
     serve       a call that asks for something is answered and resumed until it has ended: buffers are lent, files are kept in
                 memory, waits are over at once
-    notes       a line `  = TEXT` says what an answer says, as annotate.py does
+    notes       a line `  = TEXT` says what an answer says, as annotate.py does, and of a panic that is watched what its code is; with
+                `script` by the maps beside the images' files, at which lines of the source it comes
     boot=FILE   the core is booted by a boot description (embed/teec/README.md), before the first line
 The program is the one of program=FILE, of the description, or what `rt run` has built in crates/optee_live.
 
