@@ -160,6 +160,8 @@ TEE_Result TEE_SeekObjectData(TEE_ObjectHandle object, int32_t offset, TEE_Whenc
 		position += objects[number].position;
 	else if (whence == TEE_DATA_SEEK_END)
 		position += length_of(number);
+	else if (whence != TEE_DATA_SEEK_SET)
+		TEE_Panic(TEE_ERROR_BAD_PARAMETERS);
 	if (offset < 0 && (int32_t)position < 0)
 		position = 0;
 	if (sys_seek(number, position) != TEE_SUCCESS)

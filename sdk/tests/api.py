@@ -30,6 +30,7 @@ PANICS = {
     7: ("ffff0006", "TEE_CloseObject((TEE_ObjectHandle)9)"),
     8: ("00000001", "*(volatile uint8_t *)panic"),
     9: ("00000010", "abort()"),
+    10: ("ffff0006", "TEE_DATA_SEEK_END + 1"),
 }
 
 # Functions of the standard that aren't there: one of each kind.

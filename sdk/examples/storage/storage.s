@@ -300,45 +300,45 @@ move r9 r4
 const r4 0
 jump L186
 L202:
-# TEE_GetObjectInfo1 sdk/runtime/objects.c:172
+# TEE_GetObjectInfo1 sdk/runtime/objects.c:174
 const r14 12
 sub r11 r11 r14
 storew r11 r9 4
 move r9 r1
-# TEE_GetObjectInfo1 sdk/runtime/objects.c:173
-const r1 196608
-# TEE_GetObjectInfo1 sdk/runtime/objects.c:172
-storew r11 r10 0
-# TEE_GetObjectInfo1 sdk/runtime/objects.c:173
-call L81
 # TEE_GetObjectInfo1 sdk/runtime/objects.c:175
+const r1 196608
+# TEE_GetObjectInfo1 sdk/runtime/objects.c:174
+storew r11 r10 0
+# TEE_GetObjectInfo1 sdk/runtime/objects.c:175
+call L81
+# TEE_GetObjectInfo1 sdk/runtime/objects.c:177
 const r5 2684354751
 storew r9 r5 0
-# TEE_GetObjectInfo1 sdk/runtime/objects.c:178
+# TEE_GetObjectInfo1 sdk/runtime/objects.c:180
 const r5 4294967295
 storew r9 r5 12
-# TEE_GetObjectInfo1 sdk/runtime/objects.c:176
+# TEE_GetObjectInfo1 sdk/runtime/objects.c:178
 storew r9 r12 4
-# TEE_GetObjectInfo1 sdk/runtime/objects.c:177
-storew r9 r12 8
-# TEE_GetObjectInfo1 sdk/runtime/objects.c:173
-move r10 r0
 # TEE_GetObjectInfo1 sdk/runtime/objects.c:179
+storew r9 r12 8
+# TEE_GetObjectInfo1 sdk/runtime/objects.c:175
+move r10 r0
+# TEE_GetObjectInfo1 sdk/runtime/objects.c:181
 call L59
-# TEE_GetObjectInfo1 sdk/runtime/objects.c:180
+# TEE_GetObjectInfo1 sdk/runtime/objects.c:182
 shl r10 r10 r15
 const r5 1080
 add r5 r5 r10
 loadw r4 r5 4
-# TEE_GetObjectInfo1 sdk/runtime/objects.c:181
-loadw r5 r5 0
-# TEE_GetObjectInfo1 sdk/runtime/objects.c:179
-storew r9 r0 16
-# TEE_GetObjectInfo1 sdk/runtime/objects.c:180
-storew r9 r4 20
-# TEE_GetObjectInfo1 sdk/runtime/objects.c:181
-storew r9 r5 24
 # TEE_GetObjectInfo1 sdk/runtime/objects.c:183
+loadw r5 r5 0
+# TEE_GetObjectInfo1 sdk/runtime/objects.c:181
+storew r9 r0 16
+# TEE_GetObjectInfo1 sdk/runtime/objects.c:182
+storew r9 r4 20
+# TEE_GetObjectInfo1 sdk/runtime/objects.c:183
+storew r9 r5 24
+# TEE_GetObjectInfo1 sdk/runtime/objects.c:185
 loadw r9 r11 4
 loadw r10 r11 0
 const r0 0

@@ -295,6 +295,14 @@ static void read_without_the_right(void)
 	TEE_ReadObjectData(object, &byte, 1, &count);
 }
 
+static void seek_from_nowhere(void)
+{
+	TEE_ObjectHandle object;
+
+	CHECK(create(TEE_DATA_FLAG_ACCESS_WRITE | TEE_DATA_FLAG_OVERWRITE, "a", 1, &object) == TEE_SUCCESS);
+	CHECK(TEE_SeekObjectData(object, 0, TEE_DATA_SEEK_END + 1) == TEE_SUCCESS);
+}
+
 static void panic(uint32_t kind, TEE_Param params[TEE_NUM_PARAMS])
 {
 	volatile uint32_t zero = 0;
@@ -330,6 +338,9 @@ static void panic(uint32_t kind, TEE_Param params[TEE_NUM_PARAMS])
 		break;
 	case 9:
 		abort();
+	case 10:
+		seek_from_nowhere();
+		break;
 	default:
 		break;
 	}
