@@ -183,6 +183,7 @@ FAULTS = {
     "range": "a number outside its limits, or bytes outside RAM",
     "cpu": "the processor isn't below the first number of boot: they count from 0",
     "repeat": "a UUID that is loaded already, or that is built in",
+    "name": "an open of a name that was opened before, also behind its close, or another call of one that wasn't",
     "image": "bytes that are no valid image: image.py says why",
     "inside": "an smc or enter between an enter of the processor and its leave, or a leave without an enter",
     "unended": "a processor has entered, and no leave follows",
