@@ -17,9 +17,15 @@ static struct core *cores;
 
 /* ---- Begin and end. */
 
+static const char *program_of(const struct core *core) {
+    const char *program = getenv("TULGEXAR_LIVE");
+    if (program && *program) return program;
+    return core->description.program ? core->description.program : "optee_live";
+}
+
 static void say_refusal(const struct core *core, struct live_answer answer) {
     const struct described_application *application = &core->description.applications[answer.application];
-    if (answer.end != LIVE_BAD) SAY("%s: the core's program has ended, or hasn't answered in time", core->name);
+    if (answer.end != LIVE_BAD) SAY("%s: the core's program, %s, has ended, or hasn't answered in time", core->name, program_of(core));
     else if (answer.part == LIVE_OF_APPLICATION)
         SAY("%s:%d: the core refuses application %s: bad %s", core->name, application->line, application->uuid, answer.kind);
     else SAY("%s: the core refuses its boot: bad %s", core->name, answer.kind);
@@ -43,12 +49,6 @@ static TEEC_Result boots(struct core *core) {
     if (answer.end == LIVE_OK) return TEEC_SUCCESS;
     say_refusal(core, answer);
     return answer.end == LIVE_BAD ? TEEC_ERROR_BAD_FORMAT : TEEC_ERROR_COMMUNICATION;
-}
-
-static const char *program_of(const struct core *core) {
-    const char *program = getenv("TULGEXAR_LIVE");
-    if (program && *program) return program;
-    return core->description.program ? core->description.program : "optee_live";
 }
 
 static TEEC_Result starts(struct core *core) {
