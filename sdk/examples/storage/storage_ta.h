@@ -7,7 +7,7 @@
 
 /* In: bytes, which replace those of the object. */
 #define CMD_PUT 0
-/* Out: the object's bytes; where the buffer is too short, their size. */
+/* Out: the object's bytes; where the buffer is too short, their size. More than the heap (TA_DATA_SIZE) are OUT_OF_MEMORY. */
 #define CMD_GET 1
 /* In: bytes, which come behind those of the object. Out: a value, its length then. */
 #define CMD_APPEND 2
