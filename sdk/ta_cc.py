@@ -17,6 +17,7 @@ usage: ta_cc.py [-o NAME] [-O LEVEL] [-I FOLDER].. [-D MACRO].. [--pages N] [--k
 """
 
 import collections
+import contextlib
 import os
 import pathlib
 import sys
@@ -98,8 +99,9 @@ def write_all(contents):
             beside.replace(file)
     except OSError as error:
         for beside, _ in written:
-            beside.unlink(missing_ok=True)
-        raise Refused(f"{error.filename}: {error.strerror}") from error
+            with contextlib.suppress(OSError):
+                beside.unlink()
+        raise Refused(f"{file}: {error.strerror}") from error
 
 
 def built(words):

@@ -83,8 +83,9 @@ PROGRAMS = {
         {"bad.c": APPLICATION.replace("(checksum = 1)", "({ volatile char room[70000]; room[checksum] = 1; })")},
         "calls need [0-9]+ bytes of stack, and TA_STACK_SIZE gives 65536",
     ),
-    "a place that can't be written": ("-o nowhere/good good.c", {}, "nowhere/.*: No such file or directory"),
-    "a linked program that can't be written": ("--keep nowhere/good.elf good.c", {}, "nowhere/.*: No such file or directory"),
+    "a place that can't be written": ("-o nowhere/good good.c", {}, "nowhere/good.hex: No such file or directory"),
+    "a place in a file": ("-o good.c/good good.c", {}, "good.c/good.hex: Not a directory"),
+    "a linked program that can't be written": ("--keep nowhere/good.elf good.c", {}, "nowhere/good.elf: No such file or directory"),
 }
 
 
