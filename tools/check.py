@@ -273,11 +273,27 @@ def check_examples(comparison):
     trace = lift.lifted(expected.AREA_SCRIPT, shipped.SCRIPTS)
     said = [entry.note for entry in plays.lay_out(trace, expected.AREA_OUTPUT) if entry.printed]
     comparison.same("annotate.py at a play of calls with areas", said, expected.AREA_NOTES)
+    check_causes(comparison)
     for trace, output in expected.NO_PLAYS:
         comparison.same(f"annotate.py at {trace!r}", laid_out(trace, output), None)
     for name in ("annotate.py", "answers.py"):
         status, printed, said = tool(name, files[0], "-", text="ret 0\n")
-        comparison.same(f"{name} at another output", (status, printed, said.startswith(name)), (1, "", True))
+        comparison.same(f"{name} at another output", (status, "ret" in printed, said.startswith(name)), (1, False, True))
+
+
+def check_causes(comparison):
+    """What is said of each call of a play, and why a resume is answered ERESUME; and of one that is cut as much as is there."""
+    entries = plays.lay_out(expected.CAUSES_TRACE, expected.CAUSES_OUTPUT)
+    said = [said for entry in entries for said in (entry.asked, entry.note) if said]
+    comparison.same("annotate.py at resumes that are refused", said, expected.CAUSES)
+    lines = expected.CAUSES_OUTPUT.splitlines(keepends=True)
+    for count in range(len(lines)):
+        with tempfile.TemporaryDirectory() as folder:
+            path = pathlib.Path(folder, "trace")
+            path.write_text(expected.CAUSES_TRACE, encoding="latin-1")
+            status, printed, _ = tool("annotate.py", path, "-", text="".join(lines[:count]))
+        whole = annotate.annotated(entries)
+        comparison.same(f"annotate.py at {count} lines", (status, printed.count("  ret "), whole.startswith(printed)), (1, count, True))
 
 
 def check_folder(comparison):

@@ -195,7 +195,7 @@ NOTES = {
         ),
         "ret 0 00000000 00000004 00000000 00000000 00000000 00000000 00000000 00000000": "OK, threads 4",
         "ret 0 ffffffff 00000000 00000000 00000000 00000000 00000000 00000000 00000000": "UNKNOWN_FUNCTION",
-        "ret 0 00000003 00000000 00000000 00000000 00000000 00000000 00000000 00000007": "ERESUME",
+        "ret 0 00000003 00000000 00000000 00000000 00000000 00000000 00000000 00000007": "ERESUME: thread 1 is free",
     },
     "panic": {
         "mem 0 40000014 0c00ffff03000000": "ret OUT_OF_MEMORY; origin TEE",
@@ -474,4 +474,42 @@ BAD_SCRIPTS = [
     "image a no_such_file",
     "reply 0 40010000 x",
     "smc 0",
+]
+
+# Resumes that are refused for each cause: an invoke of client 1 is interrupted in thread 0, then another one is inside in thread 1.
+CAUSES_TRACE = """boot 3 2 1
+mem 40000000 01000000050000000700000000000000000000000000000000000000000000000000
+smc 0 1 32000003 0 0 2 0 0 0 1
+smc 0 1 32000003 0 0 1 0 0 0 1
+smc 0 1 32000004 0 40000000 0 0 0 0 1
+smc 1 1 32000003 0 0 0 0 0 0 2
+enter 2 1 32000004 0 40000000 0 0 0 0 3
+smc 1 1 32000003 0 0 1 0 0 0 3
+smc 1 1 32000013 0 5 0 0 0 0 3
+smc 1 1 b2000000 0 0 0 0 0 0 0
+"""
+CAUSES_OUTPUT = """ret 0 00000003 00000000 00000000 00000000 00000000 00000000 00000000 00000001
+ret 0 00000003 00000000 00000000 00000000 00000000 00000000 00000000 00000001
+ret 0 ffff0004 00000000 00000000 00000000 00000000 00000000 00000000 00000001
+ret 1 00000003 00000000 00000000 00000000 00000000 00000000 00000000 00000002
+ret 1 00000003 00000000 00000000 00000000 00000000 00000000 00000000 00000003
+ret 1 00000001 00000000 00000000 00000000 00000000 00000000 00000000 00000003
+ret 1 486178e0 e7f811e3 bc5e0002 a5d5c51b 00000000 00000000 00000000 00000000
+"""
+CAUSES = [
+    "RETURN_FROM_RPC of client 1, thread 2",
+    "ERESUME: there is no thread 2: they count from 0 to 1",
+    "RETURN_FROM_RPC of client 1, thread 1",
+    "ERESUME: thread 1 is free",
+    "CALL_WITH_ARG of client 1, thread 0: invoke of function 5 in session 7",
+    "INTERRUPT, thread 0",
+    "RETURN_FROM_RPC of client 2, thread 0",
+    "ERESUME: the call in thread 0 is another client's: it is of client 1, the resume of client 2",
+    "CALL_WITH_ARG of client 3, thread 1: invoke of function 5 in session 7",
+    "RETURN_FROM_RPC of client 3, thread 1",
+    "ERESUME: thread 1 is active: its call is inside on processor 2",
+    "CALL_WITH_REGD_ARG of client 3, no thread is free: an argument at 0 of the buffer of cookie 0x5",
+    "ETHREAD_LIMIT",
+    "GET_OS_UUID",
+    "GET_OS_UUID 486178e0-e7f8-11e3-bc5e-0002a5d5c51b",
 ]

@@ -3,6 +3,7 @@
 import struct
 import uuid
 
+import calls
 import plays
 
 MAGIC, END = b"OTTJ", 0x7F
@@ -37,7 +38,9 @@ class Teller:
         self.reader, self.play, self.event = reader, plays.Play(), 0
 
     def boot(self):
-        yield plays.Entry(0, "boot {} {} {}".format(*self.reader.numbers("BBH")))
+        cpus, threads, frames = self.reader.numbers("BBH")
+        self.play.threads = calls.Threads(threads)
+        yield plays.Entry(0, f"boot {cpus} {threads} {frames}")
 
     def application(self):
         name = uuid.UUID(bytes=self.reader.take(16))
@@ -49,12 +52,13 @@ class Teller:
     def entry(self):
         cpu, *registers, steps, count = self.reader.numbers("B8III")
         words = [f"{register:x}" for register in registers]
-        yield plays.Entry(0, f"event {self.event}: enter {cpu} {steps} {' '.join(words)}")
-        self.event += 1
         reads = [(self.reader.numbers("Q")[0], self.reader.octets()) for _ in range(count)]
         for address, data in reads:
             self.play.lanes.write(str(cpu), f"{address:x}", data.hex())
         self.play.enter(str(cpu), words)
+        asked = self.play.brought[str(cpu)]
+        yield plays.Entry(0, f"event {self.event}: enter {cpu} {steps} {' '.join(words)}", asked=asked)
+        self.event += 1
         for address, data in reads:
             note, _ = self.play.places.shown(address, data)
             yield plays.Entry(0, f"  reads {address:08x} {data.hex()}", None, note)
@@ -75,15 +79,24 @@ TAGS = {0x01: Teller.boot, 0x02: Teller.application, 0x04: Teller.key, 0x20: Tel
 def told(data):
     """The Entries of a journal and of those behind it; other bytes are a Mismatch."""
     reader, entries = Reader(data), []
-    while reader.at < len(data) or not entries:
+    try:
+        tell(reader, entries)
+    except plays.Mismatch as mismatch:
+        mismatch.entries = entries
+        raise
+    return entries
+
+
+def tell(reader, entries):
+    """Puts the Entries of a reader's journals behind others."""
+    while reader.at < len(reader.data) or not entries:
         if reader.take(4) != MAGIC:
             raise plays.Mismatch("these bytes aren't a journal; behind a trace OUTPUT is wanted")
         teller = Teller(reader)
         while (tag := reader.take(1)[0]) != END:
             if tag not in TAGS:
                 raise plays.Mismatch(f"record {reader.record} has the tag {tag:02x}, which is none")
-            entries += TAGS[tag](teller)
+            entries.extend(TAGS[tag](teller))
             reader.record += 1
         entries.append(plays.Entry(0, "end"))
         reader.record += 1
-    return entries

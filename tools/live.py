@@ -8,8 +8,9 @@ Words, in any order:
                 live.py is called in
     serve       a call that asks for something is answered and resumed until it has ended: buffers are lent, files are kept in
                 memory, waits are over at once
-    notes       a line `  = TEXT` says what an answer says, as annotate.py does, and of a panic that is watched what its code is; with
-                `script` by the maps beside the images' files, at which lines of the source it comes
+    notes       a line `  : TEXT` says of a call its function, client and thread, and what it asks for; and a line `  = TEXT` what an
+                answer says, as annotate.py does, with the cause of ERESUME, and of a panic that is watched what its code is; with `script`
+                by the maps beside the images' files, at which lines of the source it comes
     boot=FILE   the core is booted by a boot description (embed/teec/README.md), before the first line
 The program is the one of program=FILE, of the description, or what `rt run` has built in crates/optee_live.
 
@@ -339,7 +340,7 @@ class Prompt:
         self.play, self.number = plays.Play(), 0
         self.script, self.driver = lift.Script(pathlib.Path()), Driver(self.talk)
         self.inside, self.asleep = set(), []  # processors that are inside; calls that sleep
-        self.typed = None
+        self.typed = self.asked = None  # a line that stands on the terminal; what is said of the call that a line makes
         self.sources = []  # the images that the script names, each with its map
 
     def heard(self, line, answer):
@@ -347,9 +348,12 @@ class Prompt:
         if line != self.typed:
             print(f"> {plain(line)}")
         self.typed = None
+        self.asked = None
+        note = self.note(line, answer)
+        if self.asked and "notes" in self.options:
+            print(f"  : {self.asked}")
         for part in (*answer.lines, answer.ending):
             print(f"< {plain(part)}")
-        note = self.note(line, answer)
         if note and "notes" in self.options:
             print(f"  = {note}")
         sys.stdout.flush()
@@ -362,8 +366,9 @@ class Prompt:
         if word == "full":
             return f"the entry would have read too much: {rest} bytes are read so far"
         self.number += 1
-        note = self.play.entry(self.number, line, collections.deque(answer.lines)).note
-        return "; ".join(part for part in (note, self.panic(answer)) if part)
+        entry = self.play.entry(self.number, line, collections.deque(answer.lines))
+        self.asked = entry.asked
+        return "; ".join(part for part in (entry.note, self.panic(answer)) if part)
 
     def panic(self, answer):
         """What is said of the panic in which a call has ended, or an empty text."""

@@ -4,13 +4,14 @@ import collections
 import pathlib
 import re
 
+import calls
 import formats
 import messages
 from words import text_of
 
 # A line of the trace; what it printed, and what that says in words; the name of an answer; the result of a call, as
-# (result, origin), where the line shows one.
-Entry = collections.namedtuple("Entry", "number text printed note answer result", defaults=[None, None, None, None])
+# (result, origin), where the line shows one; what is said of a call as it enters.
+Entry = collections.namedtuple("Entry", "number text printed note answer result asked", defaults=[None, None, None, None, None])
 
 
 HEADER = ("boot", "ta", "mem", "key")
@@ -21,7 +22,9 @@ RET = r"ret {}((?: [0-9a-f]{{8}}){{8}})"
 
 
 class Mismatch(Exception):
-    """Output that isn't that of the trace."""
+    """Output that isn't that of the trace. `entries` are those before it."""
+
+    entries = ()
 
 
 def of_files(trace, output):
@@ -68,9 +71,15 @@ def refuse_swapped(trace, output):
 
 def laid(play, lines, printed):
     """The entries of lines, which use up what was printed."""
-    entries = [play.entry(number, text, printed) for number, text in lines]
-    if printed:
-        raise Mismatch(f"behind the last line of the trace is left: {printed[0]}")
+    entries = []
+    try:
+        for number, text in lines:
+            entries.append(play.entry(number, text, printed))
+        if printed:
+            raise Mismatch(f"behind the last line of the trace is left: {printed[0]}")
+    except Mismatch as mismatch:
+        mismatch.entries = entries
+        raise
     return entries
 
 
@@ -82,6 +91,7 @@ def in_blocks(lines, output):
     cpus = next((text.split(" ")[1] for _, text in header if text.startswith("boot ")), "0")
     if [block.partition("\n")[0] for block in blocks] != [str(cpu) for cpu in range(int(cpus))]:
         raise Mismatch("the output isn't a block for each processor")
+    visits = []
     for block in blocks:
         cpu, *printed = block.splitlines()
         full = printed.pop() if printed and printed[-1].startswith("full ") else None
@@ -91,6 +101,19 @@ def in_blocks(lines, output):
         entries += laid(play, own.get(cpu, []), collections.deque(printed)) if not full else cut_off(play, own[cpu], printed)
         if full:
             entries.append(Entry(0, "", full, "the next entry would have read too much: the processor does nothing more"))
+        visits += play.threads.visits
+    threads = next((int(text.split(" ")[2]) for _, text in header if text.startswith("boot ")), None)
+    return with_calls(entries, visits, threads)
+
+
+def with_calls(entries, visits, count):
+    """The entries of blocks, with what is said of each call: by the places of its entry and its exit."""
+    exits = [at for at, entry in enumerate(entries) if entry.printed and entry.printed.startswith("ret ")]
+    places = [[int(word) for word in entries[at].printed.split(" ")[-2:]] for at in exits]
+    told = calls.told_in_order([(*place, *visit) for place, visit in zip(places, visits)], count)
+    for at, (asked, why) in zip(exits, told):
+        note = entries[at].note
+        entries[at] = entries[at]._replace(asked=asked, note=note.replace("ERESUME", f"ERESUME: {why}", 1) if why else note)
     return entries
 
 
@@ -133,12 +156,22 @@ class Lanes:
     def __init__(self):
         self.filled = {}
         self.written = collections.defaultdict(dict)
+        self.unknown = collections.defaultdict(set)  # what the core has written there, and nothing has shown
 
     def fill(self, address, digits):
         self.filled |= enumerate(bytes.fromhex(digits), int(address, 16))
 
     def write(self, cpu, address, digits):
-        self.written[cpu] |= enumerate(bytes.fromhex(digits), int(address, 16))
+        start, data = int(address, 16), bytes.fromhex(digits)
+        self.written[cpu] |= enumerate(data, start)
+        self.unknown[cpu].difference_update(range(start, start + len(data)))
+
+    def forget(self, cpu, address, length):
+        """The core has written there."""
+        self.unknown[cpu].update(range(address, address + length))
+
+    def knows(self, cpu, address, length):
+        return self.unknown[cpu].isdisjoint(range(address, address + length))
 
     def half(self, cpu, address):
         """A number of four bytes."""
@@ -163,6 +196,9 @@ class Play:
         self.lanes = Lanes()
         self.lends = set()  # the threads whose call asked for a buffer
         self.places = messages.Places()
+        self.threads = calls.Recorded() if places else calls.Threads()
+        self.brought = {}  # what is said of each processor's last entry
+        self.opening, self.suspended = {}, {}  # where the argument of an open is, by its processor inside, or its thread
 
     def entry(self, number, text, printed):
         """The entry of a line, which takes what it printed from the output."""
@@ -179,18 +215,24 @@ class Play:
 
     def item(self, number, item, operands, printed):
         """What an item has printed, and what that says, as further fields of an Entry."""
+        if item == "boot" and not self.behind_ret:
+            self.threads = calls.Threads(int(operands[1]))
         if item in ("mem", "write"):
             (self.lanes.fill if item == "mem" else self.lanes.write)(*operands)
         if item in ("smc", "enter"):
             self.enter(operands[0], operands[2:])
+        asked = self.brought.get(operands[0]) if item in ("smc", "enter") else None
         if item in ("smc", "leave"):
             line = take(printed, number, RET.format(re.escape(operands[0])) + self.behind_ret)
             name, note = self.answer(operands[0], [int(register, 16) for register in line[1].split()])
-            return line[0], note + (f"; places {line[2]} and {line[3]}" if self.behind_ret else ""), name
+            return line[0], note + (f"; places {line[2]} and {line[3]}" if self.behind_ret else ""), name, None, asked
+        if item == "enter":
+            return None, None, None, None, asked
         if item == "show":
             address, length = int(operands[1], 16), int(operands[2])
             line = take(printed, number, f"mem {re.escape(operands[0])} {address:08x} ([0-9a-f]{{{2 * length}}})")
             note, result = self.places.shown(address, bytes.fromhex(line[1]))
+            self.lanes.write(operands[0], operands[1], line[1])
             return line[0], note, None, result
         return ()
 
@@ -198,9 +240,13 @@ class Play:
         """Reads what an entry brings: its function, and where an argument, its area or a lent buffer lies. Where an argument
         lies that a cookie names isn't known."""
         last = self.last_answer[cpu]
-        a0, a1, a2, a3 = (last[int(word[1])] if word[0] == "=" else int(word, 16) for word in registers[:4])
+        registers = [last[int(word[1])] if word[0] == "=" else int(word, 16) for word in registers]
+        a0, a1, a2, a3 = registers[:4]
         address = a1 << 32 | a2
         self.function[cpu] = a0
+        came = calls.brought(cpu, registers, self.lanes)
+        self.brought[cpu] = self.threads.enter(came)
+        self.opening[cpu] = self.suspended.get(a3) if a0 == formats.RETURN_FROM_RPC else came.open_at
         if a0 in (formats.CALL_WITH_ARG, formats.CALL_WITH_RPC_ARG):
             self.places.argument_at(address)
         count = self.lanes.half(cpu, address + formats.COUNT_AT)
@@ -213,18 +259,23 @@ class Play:
         """The name of an answer, and what it says."""
         self.last_answer[cpu] = registers
         a0, a1, a2, a3 = registers[:4]
+        why = self.threads.leave(cpu, registers)
         function = formats.FUNCTIONS.get(self.function[cpu])
         if function in formats.UUID_FUNCTIONS:
             digits = "".join(f"{register:08x}" for register in registers[:4])
             return function, f"{function} {'-'.join(re.findall('^.{8}|.{12}$|.{4}', digits))}"
         if function in formats.REVISION_FUNCTIONS:
             return function, f"{function} {a0}.{a1}"
+        opening = self.opening.pop(cpu, None)
+        if a0 == 0 and opening is not None:
+            self.lanes.forget(cpu, opening + calls.SESSION_AT, 4)
         if a0 in formats.RPCS and function in formats.YIELDING_FUNCTIONS:
+            self.suspended[a3] = opening
             return self.rpc(formats.RPCS[a0], a1, a2, a3)
         name = formats.CODES.get(a0, f"{a0:08x}")
         if formats.NOTIFY_FUNCTIONS.get(self.function[cpu]) == "GET_ASYNC_NOTIF_VALUE" and a0 == 0:
             return name, name + said_of_value(a1, a2)
-        return name, name + said_beside(function, a0, a1, a3)
+        return name, name + (f": {why}" if why else said_beside(function, a0, a1, a3))
 
     def rpc(self, name, a1, a2, thread):
         """An answer that asks for something."""

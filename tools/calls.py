@@ -1,0 +1,164 @@
+"""What each call of a play asks for, in which thread, and why a resume is answered ERESUME, by docs/formats.md ("A new call", "A
+resume"). It isn't run by itself."""
+
+import collections
+import uuid
+
+import formats
+
+NEW_CALLS = (formats.CALL_WITH_ARG, formats.CALL_WITH_RPC_ARG, formats.CALL_WITH_REGD_ARG)
+ERESUME = 3
+RAM_START, RAM_END = 0x4000_0000, 0x4040_0000
+HIGHEST_COMMAND = 5
+SESSION_AT = 8
+VERBS = {
+    1: "invoke of function {func} in {session}",
+    2: "close of {session}",
+    3: "cancel in {session}, cancel id {cancel_id}",
+    4: "register of a buffer",
+    5: "unregister of a buffer",
+}
+
+# An entry: its processor and registers; what its call asks for, and whether it passes the tests behind which it has a thread (None
+# where that isn't known); where the argument of an open is, or None.
+Brought = collections.namedtuple("Brought", "cpu registers asked begins open_at", defaults=[None])
+
+# A call in a thread: what it asks for, its client, and the processor that it is inside on, or None.
+Call = collections.namedtuple("Call", "asked client cpu")
+
+
+def brought(cpu, registers, lanes):
+    """What an entry brings, by the RAM of its processor."""
+    function, address = registers[0], registers[1] << 32 | registers[2]
+    if function == formats.CALL_WITH_REGD_ARG:
+        return Brought(cpu, registers, f"an argument at {registers[3]} of the buffer of cookie {address:#x}", None)
+    if function not in NEW_CALLS:
+        return Brought(cpu, registers, "", False)
+    if address % 8 or not is_in_ram(address, formats.HEAD_BYTES):
+        return Brought(cpu, registers, f"no argument can be at {address:x}", False)
+    data = lanes.bytes_at(cpu, address, formats.HEAD_BYTES)
+    head = {name: int.from_bytes(data[4 * at : 4 * at + 4], "little") for at, name in enumerate(formats.HEAD)}
+    count = head["num_params"]
+    length = formats.HEAD_BYTES + formats.PARAMETER_BYTES * count
+    length += formats.AREA_BYTES if function == formats.CALL_WITH_RPC_ARG else 0
+    begins = count <= formats.MOST_PARAMETERS and is_in_ram(address, length) and head["cmd"] <= HIGHEST_COMMAND
+    return Brought(cpu, registers, asked_by(cpu, address, head, lanes), begins, address if begins and head["cmd"] == 0 else None)
+
+
+def is_in_ram(address, length):
+    return RAM_START <= address and address + length <= RAM_END
+
+
+def asked_by(cpu, address, head, lanes):
+    """What an argument asks for, in words."""
+    if head["cmd"] == 0:
+        octets = lanes.bytes_at(cpu, address + formats.HEAD_BYTES + 8, 16)
+        return f"open of {uuid.UUID(bytes=octets)}"
+    session = f"session {head['session']}" if lanes.knows(cpu, address + SESSION_AT, 4) else "the session of an open before"
+    return VERBS.get(head["cmd"], "command {cmd}").format(**head | {"session": session})
+
+
+class Threads:
+    """The calls in the threads of a play, as far as its entries and exits tell them. A new call takes the lowest free thread; where an
+    answer names another one, the answer is right."""
+
+    def __init__(self, count=None):
+        self.count, self.held = count, {}
+        self.inside = {}  # of each processor what it has brought, its thread, and why ERESUME would come
+
+    def enter(self, came):
+        """What is said of an entry."""
+        cpu, registers = came.cpu, came.registers
+        name = function_name(registers[0])
+        if registers[0] == formats.RETURN_FROM_RPC:
+            said = self.resume(came)
+        elif registers[0] in NEW_CALLS:
+            said = self.begin(came)
+        else:
+            self.inside[cpu] = came, None, ""
+            return name
+        return f"{name} of client {registers[7]}, {said}"
+
+    def begin(self, came):
+        """What is said of a new call's thread, and what it asks for."""
+        thread = next(number for number in range(2**32) if number not in self.held)
+        is_free = self.count is None or thread < self.count
+        takes = came.begins is not False and is_free
+        if takes:
+            self.held[thread] = Call(came.asked, came.registers[7], came.cpu)
+        self.inside[came.cpu] = came, thread if takes else None, ""
+        where = f"thread {thread}" if takes else "no thread" if is_free else "no thread is free"
+        return f"{where if came.begins is not None or not is_free else 'a new call'}: {came.asked}"
+
+    def resume(self, came):
+        """What is said of a resume's thread, and the call that it goes on with."""
+        thread, client = came.registers[3], came.registers[7]
+        why = self.refusal(thread, client)
+        self.inside[came.cpu] = came, None if why else thread, why or f"without a cause, as the call in thread {thread} is suspended for client {client}"
+        if why:
+            return f"thread {thread}"
+        call = self.held[thread]
+        self.held[thread] = call._replace(cpu=came.cpu)
+        return f"thread {thread}: goes on with {call.asked}"
+
+    def refusal(self, thread, client):
+        """Why a resume is answered ERESUME, or None where it goes on with a call."""
+        call = self.held.get(thread)
+        if self.count is not None and thread >= self.count:
+            return f"there is no thread {thread}: they count from 0 to {self.count - 1}"
+        if call is None:
+            return f"thread {thread} is free"
+        if call.cpu is not None and self.inside[call.cpu][0].begins is None:
+            return f"thread {thread} is active, or free: processor {call.cpu} is inside with a new call, whose argument isn't known"
+        if call.cpu is not None:
+            return f"thread {thread} is active: its call is inside on processor {call.cpu}"
+        if call.client != client:
+            return f"the call in thread {thread} is another client's: it is of client {call.client}, the resume of client {client}"
+        return None
+
+    def leave(self, cpu, registers):
+        """Why an exit answers ERESUME, where it does, else an empty text."""
+        if cpu not in self.inside:
+            return ""
+        came, thread, why = self.inside.pop(cpu)
+        call = self.held.pop(thread, None) if thread is not None else None
+        if registers[0] in formats.RPCS and (came.registers[0] in NEW_CALLS or came.registers[0] == formats.RETURN_FROM_RPC):
+            call = call or self.held.get(registers[3]) or Call(came.asked or "a call", came.registers[7], None)
+            self.held[registers[3]] = call._replace(cpu=None)
+        is_refused = came.registers[0] == formats.RETURN_FROM_RPC and registers[0] == ERESUME
+        if is_refused and call:
+            self.held[thread] = call._replace(cpu=None)
+        return why if is_refused else ""
+
+
+class Recorded:
+    """Entries and exits of one processor of a play by threads, which are told once all are known, in the order of their places."""
+
+    def __init__(self):
+        self.visits, self.came = [], None
+
+    def enter(self, came):
+        self.came = came
+
+    def leave(self, cpu, registers):
+        self.visits.append((self.came, registers))
+        return ""
+
+
+def told_in_order(visits, count):
+    """What is said of each visit's entry, and why it was answered ERESUME, of visits with the places of their entries and exits."""
+    threads, said = Threads(count), [None] * len(visits)
+    whys = [""] * len(visits)
+    events = [(visit[0], at, True) for at, visit in enumerate(visits)] + [(visit[1], at, False) for at, visit in enumerate(visits)]
+    for _, at, is_entry in sorted(events):
+        came, registers = visits[at][2:]
+        if is_entry:
+            said[at] = threads.enter(came)
+        else:
+            whys[at] = threads.leave(came.cpu, registers)
+    return list(zip(said, whys))
+
+
+def function_name(a0):
+    """The name of a function, or its number."""
+    return formats.FUNCTIONS.get(a0) or formats.NOTIFY_FUNCTIONS.get(a0) or f"unknown function {a0:08x}"
