@@ -27,6 +27,7 @@ import client_test
 import conversations
 import documented
 import expected
+import explain
 import formats
 import image
 import journal
@@ -192,6 +193,7 @@ def check_other_words(comparison):
         comparison.same(f"exits of {name}.journal", left, [line[4:] for line in rets if line.startswith("ret ")])
         given = tool("annotate.py", shipped.EXAMPLES / f"{name}.journal")
         comparison.same(f"annotate.py {name}.journal", given[:2], (0, annotate.annotated(told)))
+    check_explained(comparison)
     for play in shipped.worked_cases("record"):
         data = play.output.encode("latin-1")
         if data.startswith(journal.MAGIC):
@@ -201,6 +203,65 @@ def check_other_words(comparison):
             comparison.same(f"the header of the journal of {play.name}", is_told, True)
             for cut in (1, len(data) // 2, len(data) - 1):
                 comparison.same(f"the journal of {play.name} cut at {cut}", is_journal(data[:cut]), False)
+
+
+class Recorder:
+    """A program that records one journal, whatever it is given."""
+
+    def __init__(self, journal_of):
+        self.journal_of = journal_of
+
+    def run(self, words, trace):
+        return program.Done(self.journal_of.decode("latin-1"), 0)
+
+
+def check_explained(comparison):
+    """At each exit of a journal, with a register changed: that one is named, and the events of the exit's call stand above."""
+    data = (shipped.EXAMPLES / "session_in_steps.journal").read_bytes()
+    header, events = explain.read(data)
+    trace = [line for line in items(shipped.read(shipped.EXAMPLES / "session_in_steps.trace")) if line.split(" ")[0] in ("boot", "ta")]
+    comparison.same("the header of session_in_steps.journal", header, trace)
+    for at, event in enumerate(events):
+        if event.is_entry:
+            continue
+        for register, value in enumerate(event.registers):
+            changed = data_with(data, at, register, value ^ 1)
+            lines = explain.explanation(changed, at, Recorder(data))
+            wanted = f"differs: a{register} is {value ^ 1:08x}, wanted is {value:08x}"
+            comparison.same(f"explain.py at event {at} with another a{register}", lines[-1], wanted)
+        told = [int(place) for line in lines[: lines.index("wanted:")] for place in re.findall("^event ([0-9]+):", line)]
+        comparison.same(f"explain.py at event {at} tells its entry", told[-2:], [explain.entry_before(events, at), at])
+        first = events[told[0]]
+        comparison.same(f"explain.py at event {at} begins with a call", first.registers[0] != formats.RETURN_FROM_RPC, True)
+    for name, fault in expected.TURNS.items():
+        play = next(play for play in shipped.worked_cases("audit") if play.name == name)
+        at = int(play.output.split(" ")[1])
+        comparison.same(f"explain.py at {name}", explain.explanation(play.trace.encode("latin-1"), at, None)[-1], f"differs: {fault}")
+
+
+def data_with(data, at, register, value):
+    """A journal in which an exit has another register."""
+    reader, number = journal.Reader(data), -1
+    reader.take(len(journal.MAGIC))
+    while number < at:
+        before = reader.at
+        number += skip(reader) in (0x20, 0x21)
+    place = before + 2 + 4 * register
+    return data[:place] + value.to_bytes(4, "little") + data[place + 4 :]
+
+
+def skip(reader):
+    """Takes a record: its tag."""
+    tag = reader.take(1)[0]
+    lengths = {0x01: 4, 0x02: 16, 0x04: 32, 0x20: 37, 0x21: 33}
+    reader.take(lengths[tag])
+    if tag == 0x02:
+        reader.octets()
+    if tag == 0x20:
+        for _ in range(*reader.numbers("I")):
+            reader.take(8)
+            reader.octets()
+    return tag
 
 
 def is_journal(data):

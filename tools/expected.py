@@ -419,6 +419,7 @@ BAD_WORDS = {
     "annotate.py": ["", "a", "a b c", "no_such_file no_such_file"],
     "answers.py": ["", "a", "a b c", "no_such_file no_such_file"],
     "image.py": ["x", "comments x", "map=no_such_file", "map=../README.md"],
+    "explain.py": ["", "a b", "no_such_file", "program=no_such_file a"],
     "lift.py": ["", "a b", "no_such_file"],
     "check.py": ["x"],
     "chart.py": ["", "a b c", "program=no_such_file a", "no_such_file no_such_file"],
@@ -513,3 +514,10 @@ CAUSES = [
     "GET_OS_UUID",
     "GET_OS_UUID 486178e0-e7f8-11e3-bc5e-0002a5d5c51b",
 ]
+
+# What explain.py names of events that are out of turn, and of reads that disagree, of cases.
+TURNS = {
+    "audit-of-an-exit-before-its-entry": "processor 0 is not inside: its entries and exits alternate",
+    "audit-of-two-entries-of-one-processor": "processor 0 is inside already: its entries and exits alternate",
+    "audit-of-reads-that-disagree": "two reads of this entry have different bytes at 40000000",
+}

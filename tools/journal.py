@@ -65,9 +65,11 @@ class Teller:
 
     def exit(self):
         cpu, *registers = self.reader.numbers("B8I")
-        if str(cpu) not in self.play.function:
-            raise plays.Mismatch(f"record {self.reader.record} is an exit before any entry of processor {cpu}")
         line = " ".join(f"{register:08x}" for register in registers)
+        if str(cpu) not in self.play.function:
+            yield plays.Entry(0, f"event {self.event}: leave {cpu} {line}", None, f"an exit before any entry of processor {cpu}")
+            self.event += 1
+            return
         name, note = self.play.answer(str(cpu), registers)
         yield plays.Entry(0, f"event {self.event}: leave {cpu} {line}", None, note, name)
         self.event += 1

@@ -16,6 +16,11 @@ UID = "ret 0 384fb3e0 e7f811e3 af630002 a5d5c51b 00000000 00000000 00000000 0000
 CLIENT_BOOT = "boot 1 2 1\n"
 CONVERSE = "import live, formats, sys; talk = live.Conversation('$LIVE'); talk.ask('boot 1 1 1'); "
 
+JOURNAL = (  # of one call, CALLS_UID
+    "OTTJ\x01\x01\x01\x01\x00\x20\x00\x01\xff\x00\xbf" + 28 * "\x00" + "\x01\x00\x00\x00\x00\x00\x00\x00"
+    "\x21\x00\xe0\xb3\x4f\x38\xe3\x11\xf8\xe7\x02\x00\x63\xaf\x1b\xc5\xd5\xa5" + 16 * "\x00" + "\x7f"
+)
+
 FILES = {
     "good.trace": BOOT + CALL,
     "good.out": UID,
@@ -31,6 +36,10 @@ FILES = {
     "refused.out": "bad trace 1 count\n",
     "bad_address.trace": BOOT + "smc 0 1 32000004 0 10000000 0 0 0 0 0\n",
     "bad_address.out": "ret 0 00000004 00000000 00000000 00000000 00000000 00000000 00000000 00000000\n",
+    "wrong.journal": JOURNAL.replace("\xa5\x00", "\xa6\x00"),
+    "cut.journal": JOURNAL[:40],
+    "outside.journal": JOURNAL[:9] + JOURNAL[51:],
+    "good.journal": JOURNAL,
     "empty": "",
     "junk": "\x00\x01\xff\x1b[31mjunk\x07\n",
     "odd.hex": "4f5",
@@ -67,7 +76,7 @@ FILES = {
 }
 EXECUTABLE = ("sleeps", "quiet", "text_program", "babbles", "ends")
 
-TOOLS = ("annotate", "answers", "arg", "chart", "check", "client_test", "embed", "image", "known", "known_live", "lift", "live", "live_test", "step")
+TOOLS = ("annotate", "answers", "arg", "chart", "check", "client_test", "embed", "explain", "image", "known", "known_live", "lift", "live", "live_test", "step")
 HELPS = [Mistake(f"{tool}.py asked for help", f"{tool}.py --help", 0, f"usage: {tool}") for tool in TOOLS]
 
 ARGUMENTS = [
@@ -106,6 +115,22 @@ ANNOTATE = [
     Mistake("answers.py: the output alone", "answers.py good.out", 2, "usage"),
     Mistake("answers.py: a script", "answers.py some.script good.out", "12", "lift.py|script"),
     Mistake("answers.py: no such trace", "answers.py no_such good.out", 2, "No such file"),
+]
+
+EXPLAIN = [
+    Mistake("explain.py: no such journal", "explain.py program=$RUN no_such", 2, "no_such: No such file"),
+    Mistake("explain.py: no words", "explain.py program=$RUN", 2, "usage"),
+    Mistake("explain.py: a trace", "explain.py program=$RUN good.trace", 1, "aren't a journal"),
+    Mistake("explain.py: junk", "explain.py program=$RUN junk", 1, "aren't a journal"),
+    Mistake("explain.py: an empty file", "explain.py program=$RUN empty", 1, "cut|journal"),
+    Mistake("explain.py: a journal that is cut", "explain.py program=$RUN cut.journal", 1, "record 2 is cut"),
+    Mistake("explain.py: a journal that is legal", "explain.py program=$RUN good.journal", 0, "legal 2"),
+    Mistake("explain.py: a wrong register", "explain.py program=$RUN wrong.journal", 1, "differs: a3 is a6d5c51b, wanted is a5d5c51b"),
+    Mistake("explain.py: an exit of nobody", "explain.py program=$RUN outside.journal", 1, "processor 0 is not inside"),
+    Mistake("explain.py: /bin/true as program", "explain.py program=/bin/true good.journal", 1, "true isn't the program"),
+    Mistake("explain.py: /bin/cat as program", "explain.py program=/bin/cat good.journal", "12", "cat"),
+    Mistake("explain.py: the program of conversations", "explain.py program=$LIVE good.journal", 1, "doesn't audit"),
+    Mistake("explain.py: a program that sleeps", "explain.py program=sleeps good.journal", "12", "seconds"),
 ]
 
 CHARTS = [
@@ -261,4 +286,4 @@ OTHERS = [
     Mistake("optee_live: a word", "$LIVE x", 2, "usage: optee_live"),
 ]
 
-ALL = [*HELPS, *ARGUMENTS, *ANNOTATE, *CHARTS, *IMAGES, *CLIENTS, *SCRIPTS, *PROMPTS, *MODULE, *OTHERS]
+ALL = [*HELPS, *ARGUMENTS, *ANNOTATE, *EXPLAIN, *CHARTS, *IMAGES, *CLIENTS, *SCRIPTS, *PROMPTS, *MODULE, *OTHERS]
