@@ -159,6 +159,11 @@ def told_in_order(visits, count):
     return list(zip(said, whys))
 
 
+def cause(why):
+    """Why a resume was answered ERESUME, in a word or two."""
+    return next((words for words in ("active, or free", "no thread", "free", "active", "another client") if words in why), "")
+
+
 def function_name(a0):
     """The name of a function, or its number."""
     return formats.FUNCTIONS.get(a0) or formats.NOTIFY_FUNCTIONS.get(a0) or f"unknown function {a0:08x}"

@@ -5,7 +5,8 @@ TRACE is a trace as text, OUTPUT what `run` or `threads` has printed for it; `-`
 bands one below the other. Above are the processors: a box is a processor inside, with its call at the entry and, below it, its
 answer at the exit; the small numbers are the places of both in the core's one history. Below are the slots: a bar is a call,
 dark while a processor works on it and light while it is suspended; it is striped while it sleeps until its instance is free.
-Requests and results have names where the trace shows their bytes.
+Requests and results have names where the trace shows their bytes, and ERESUME its cause. Over a box or a bar a viewer shows the call's
+function, client, thread and session; a bar has them where there is room.
 
 A trace with signals, a script of a client or for lift.py, a play that was refused, and one without a call aren't drawn.
 
@@ -25,6 +26,7 @@ import pathlib
 import re
 import sys
 
+import calls
 import formats
 import plays
 import program
@@ -71,6 +73,11 @@ def text(x, y, words, size=10, color="text", anchor="start", more=""):
     return f"<text {where}>{html.escape(words)}</text>"
 
 
+def title(words):
+    """Words that viewers show where the pointer is over a group."""
+    return f"<title>{html.escape(words)}</title>"
+
+
 def box(x, y, width, height, fill, stroke="line"):
     return f'<rect x="{x}" y="{y}" width="{width}" height="{height}" rx="2" fill="{fill}" stroke="{COLORS[stroke]}"/>'
 
@@ -106,13 +113,15 @@ def lane(band, y, cpu, told):
 def visit_box(band, y, visit, x, end):
     """A box with what the entry says; the answer below, and the places above both sides."""
     name, detail = visit.said
-    drawn = [box(x, y + 10, end - x, 28, COLORS["box"])]
+    told = f"{visit.called}: {visit.given}" + (f", {visit.why}" if visit.why else "")
+    drawn = ["<g>", title(told), box(x, y + 10, end - x, 28, COLORS["box"])]
     for row, line in enumerate((lines_of(name) + lines_of(detail))[:2]):
         drawn.append(text(x + 3, y + 21 + 12 * row, line))
-    for row, line in enumerate(lines_of(visit.given)[:2]):
+    for row, line in enumerate(lines_of(f"{visit.given} {calls.cause(visit.why)}".rstrip())[:2]):
         drawn.append(text(end - 2, y + 50 + 11 * row, line, 10, "inside", "end"))
     sides = [(visit.entry, x, "start"), (visit.exit, end, "end")]
-    return drawn + [text(at, y + 8, str(place), 8, "line", side) for place, at, side in sides if place in band.xs]
+    drawn += [text(at, y + 8, str(place), 8, "line", side) for place, at, side in sides if place in band.xs]
+    return [*drawn, "</g>"]
 
 
 def slot_row(band, y, slot, told):
@@ -127,8 +136,9 @@ def slot_row(band, y, slot, told):
 
 def call_bar(band, y, call, told, x, end):
     """A call: light where it is suspended, dark where a processor works on it, striped where it sleeps."""
-    drawn = [box(x, y + 2, end - x, SLOT - 6, COLORS["suspended"])]
-    names = [(x + 4, " ".join(call.text).strip(), True)]
+    whole = f"{call.asked}, client {call.client}"
+    drawn = ["<g>", title(f"thread {call.slot}: {whole}"), box(x, y + 2, end - x, SLOT - 6, COLORS["suspended"])]
+    names = [(x + 4, whole if 5 * len(whole) + 8 < end - x else " ".join(call.text).strip(), True)]
     for first, last in sleeps_of(call, told):
         part = clipped(band, first, last)
         if part:
@@ -138,7 +148,7 @@ def call_bar(band, y, call, told, x, end):
         part = clipped(band, visit.entry, visit.exit)
         if part:
             drawn.append(box(part[0], y + 2, part[1] - part[0], SLOT - 6, COLORS["inside"]))
-    return drawn + [text(at, y + 13, words, more=HALO) for at, words, fits in names if fits]
+    return [*drawn, *(text(at, y + 13, words, more=HALO) for at, words, fits in names if fits), "</g>"]
 
 
 def sleeps_of(call, told):
@@ -182,7 +192,7 @@ def chart(told):
 
 def with_shows(trace, output):
     """The trace with lines `show` behind its calls: of a request where its buffer lies, and of a result in its argument."""
-    told = story.Story(story.visits_of(trace, output))
+    told = story.Story(story.visits_of(trace, output), story.threads_of(trace))
     at_exit = {visit.line: shows_behind(visit, told) for visit in told.visits}
     lines = []
     for number, line in enumerate(trace.splitlines()):
@@ -247,9 +257,13 @@ def traced(told):
     events = [named("process_name", pid, 0, name) for pid, name in ((PROCESSORS, "processors"), (SLOTS, "slots"))]
     events += [named("thread_name", pid, row, f"{'processor' if pid == PROCESSORS else 'slot'} {row}") for pid, row in sorted(rows)]
     for visit in told.visits:
-        events.append(event(PROCESSORS, int(visit.cpu), visit.said, visit.entry, visit.exit, answer=visit.given))
+        client = visit.registers[7] if visit.is_new_call or visit.is_resume else None
+        details = {"asked": visit.called, "client": client, "thread": visit.slot, "answer": visit.given, "cause": visit.why}
+        details = {name: value for name, value in details.items() if value not in (None, "")}
+        events.append(event(PROCESSORS, int(visit.cpu), visit.said, visit.entry, visit.exit, **details))
     for call in told.calls:
-        events.append(event(SLOTS, call.slot, call.text, call.first, told.length if call.last is None else call.last))
+        last = told.length if call.last is None else call.last
+        events.append(event(SLOTS, call.slot, call.text, call.first, last, asked=call.asked, client=call.client))
         events += [event(SLOTS, call.slot, ["sleeps"], first, last) for first, last in sleeps_of(call, told)]
     return json.dumps({"traceEvents": events}, indent=1) + "\n"
 
@@ -292,7 +306,7 @@ def main(words):
         refuse_none(trace)
         if not output.startswith("cpu "):
             plays.lay_out(trace, output)
-        told = story.Story(story.visits_of(trace, output))
+        told = story.Story(story.visits_of(trace, output), story.threads_of(trace))
         if viewed:
             pathlib.Path(viewed).write_text(traced(told), encoding="utf-8")
         else:

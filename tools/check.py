@@ -22,6 +22,7 @@ import annotate
 import answers
 import arg
 import bench_test
+import chart
 import client
 import client_test
 import conversations
@@ -278,11 +279,19 @@ def check_pictures(comparison):
     for path, picture in shown:
         given = tool("chart.py", path.with_suffix(".trace"), path.with_suffix(".out"))
         comparison.same(f"chart.py {path.name}", given, (0, shipped.read(pictures / picture), ""))
+    told = story.Story(story.visits_of(expected.CAUSES_TRACE, expected.CAUSES_OUTPUT), 2)
+    given = [(visit.called, visit.why) for visit in told.visits if visit.why]
+    whys = [note.partition("ERESUME: ")[2] for note in expected.CAUSES]
+    comparison.same("causes in a picture", given, [(said, why) for said, why in zip(expected.CAUSES, whys[1:]) if why])
+    drawn = re.findall(">ERESUME ([a-z]+)<", chart.chart(told))
+    comparison.same("words of causes in a picture", sorted(drawn), ["active", "another", "free", "no"])
     for play in [*shipped.examples(), *threads_plays(pictures)]:
-        told = story.Story(story.visits_of(play.trace, play.output))
+        told = story.Story(story.visits_of(play.trace, play.output), story.threads_of(play.trace))
         for visit in told.visits:
             if visit.answer in formats.RPCS.values():
                 comparison.same(f"the slot at {visit.exit} of {play.name}", visit.slot, visit.answered[3])
+                is_told = f"thread {visit.answered[3]}:" in visit.called
+                comparison.same(f"the thread of the call at {visit.exit} of {play.name}", is_told or "a new call:" in visit.called, True)
         rets = sum(line.startswith("ret ") for line in play.output.splitlines())
         comparison.same(f"visits of {play.name}", len(told.visits), rets)
         comparison.same(f"places of {play.name}", sorted(places_of(told)), list(range(2 * rets)))

@@ -477,7 +477,8 @@ BAD_SCRIPTS = [
     "smc 0",
 ]
 
-# Resumes that are refused for each cause: an invoke of client 1 is interrupted in thread 0, then another one is inside in thread 1.
+# Resumes that are refused for each cause, as if session 7 were open: an invoke of client 1 is interrupted in thread 0, then another one
+# is inside in thread 1.
 CAUSES_TRACE = """boot 3 2 1
 mem 40000000 01000000050000000700000000000000000000000000000000000000000000000000
 smc 0 1 32000003 0 0 2 0 0 0 1
@@ -488,6 +489,7 @@ enter 2 1 32000004 0 40000000 0 0 0 0 3
 smc 1 1 32000003 0 0 1 0 0 0 3
 smc 1 1 32000013 0 5 0 0 0 0 3
 smc 1 1 b2000000 0 0 0 0 0 0 0
+leave 2
 """
 CAUSES_OUTPUT = """ret 0 00000003 00000000 00000000 00000000 00000000 00000000 00000000 00000001
 ret 0 00000003 00000000 00000000 00000000 00000000 00000000 00000000 00000001
@@ -496,6 +498,7 @@ ret 1 00000003 00000000 00000000 00000000 00000000 00000000 00000000 00000002
 ret 1 00000003 00000000 00000000 00000000 00000000 00000000 00000000 00000003
 ret 1 00000001 00000000 00000000 00000000 00000000 00000000 00000000 00000003
 ret 1 486178e0 e7f811e3 bc5e0002 a5d5c51b 00000000 00000000 00000000 00000000
+ret 2 00000000 00000000 00000000 00000000 00000000 00000000 00000000 00000003
 """
 CAUSES = [
     "RETURN_FROM_RPC of client 1, thread 2",
@@ -513,6 +516,7 @@ CAUSES = [
     "ETHREAD_LIMIT",
     "GET_OS_UUID",
     "GET_OS_UUID 486178e0-e7f8-11e3-bc5e-0002a5d5c51b",
+    "OK",
 ]
 
 # What explain.py names of events that are out of turn, and of reads that disagree, of cases.

@@ -3,6 +3,7 @@
 import collections
 import re
 
+import calls
 import formats
 import messages
 import plays
@@ -19,6 +20,8 @@ class Visit:
     def __init__(self, cpu, registers, lanes):
         self.cpu, self.registers = cpu, registers
         self.head = Head(lanes, cpu, registers)
+        self.came = calls.brought(cpu, registers, lanes)
+        self.called, self.why = "", ""  # all that is said of the entry, and why the exit answers ERESUME
         self.ram = lanes.copy(cpu)  # what was written into the processor's RAM before the entry, by the addresses
         self.asked = {}  # bytes of it that were shown behind the exit
         self.entry = self.exit = self.answered = None  # places in the history, and the registers of the answer
@@ -70,8 +73,9 @@ class Head:
 class Call:
     """A call: its slot from its entry to the exit that answers OK, and what it asked for at each exit."""
 
-    def __init__(self, slot, text, first):
-        self.slot, self.text, self.first, self.last = slot, text, first, None
+    def __init__(self, slot, visit):
+        self.slot, self.text, self.first, self.last = slot, head_text(visit), visit.entry, None
+        self.asked, self.client = visit.came.asked, visit.registers[7]
         self.visits = []
 
 
@@ -82,6 +86,12 @@ def visits_of(trace, output):
     walk = Walk(iter(range(2**32)))
     walk.play(trace, collections.deque(output.splitlines()))
     return walk.visits
+
+
+def threads_of(trace):
+    """How many threads a trace boots its core with, or None."""
+    boot = re.search("^boot [0-9]+ ([0-9]+) ", trace, flags=re.MULTILINE)
+    return int(boot[1]) if boot else None
 
 
 def threads_visits(trace, output):
@@ -155,8 +165,9 @@ class Walk:
 class Story:
     """A play's visits, with the slots that calls take, and what each visit asks and is answered, in words."""
 
-    def __init__(self, visits):
+    def __init__(self, visits, threads=None):
         self.visits = [visit for visit in visits if visit.answered]
+        self.threads = calls.Threads(threads)
         self.calls, self.held, self.buffers, self.pending = [], {}, {}, {}
         events = [(visit.entry, self.entered, visit) for visit in self.visits]
         events += [(visit.exit, self.left, visit) for visit in self.visits]
@@ -166,10 +177,10 @@ class Story:
 
     def entered(self, visit):
         """A new call takes the lowest free slot, and a resume goes on with the call of its slot."""
-        visit.said = self.entry_text(visit)
+        visit.said, visit.called = self.entry_text(visit), self.threads.enter(visit.came)
         if visit.is_new_call and visit.answer not in REFUSED:
             slot = next(number for number in range(2**32) if number not in self.held)
-            call = self.held[slot] = Call(slot, head_text(visit), visit.entry)
+            call = self.held[slot] = Call(slot, visit)
             self.calls.append(call)
         elif visit.is_resume and visit.answer != "ERESUME":
             slot = visit.registers[3]
@@ -203,7 +214,7 @@ class Story:
 
     def left(self, visit):
         """What an exit says: the answer, a request by its name, a result where it was shown."""
-        visit.given = self.exit_text(visit)
+        visit.given, visit.why = self.exit_text(visit), self.threads.leave(visit.cpu, visit.answered)
         if visit.slot is None:
             return
         self.pending[visit.slot] = visit.given
