@@ -94,7 +94,8 @@ class Threads:
         """What is said of a resume's thread, and the call that it goes on with."""
         thread, client = came.registers[3], came.registers[7]
         why = self.refusal(thread, client)
-        self.inside[came.cpu] = came, None if why else thread, why or f"without a cause, as the call in thread {thread} is suspended for client {client}"
+        other = f"without a cause, as the call in thread {thread} is suspended for client {client}"
+        self.inside[came.cpu] = came, None if why else thread, why or other
         if why:
             return f"thread {thread}"
         call = self.held[thread]
