@@ -8,7 +8,6 @@ import formats
 import messages
 import plays
 
-NEW_CALLS = (formats.CALL_WITH_ARG, formats.CALL_WITH_RPC_ARG, formats.CALL_WITH_REGD_ARG)
 REFUSED = ("ETHREAD_LIMIT", "EBADADDR", "EBADCMD")
 VERBS = {name: name.split("_")[0].lower() for name in formats.COMMANDS.values()}
 P_AT, RET_AT = formats.HEAD_BYTES + 8, 4 * formats.HEAD.index("ret")
@@ -35,7 +34,7 @@ class Visit:
 
     @property
     def is_new_call(self):
-        return self.function in NEW_CALLS
+        return self.function in calls.NEW_CALLS
 
     @property
     def is_resume(self):
