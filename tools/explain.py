@@ -11,7 +11,6 @@ usage: explain.py [program=FILE] JOURNAL
 import collections
 import re
 import sys
-import uuid
 
 import annotate
 import formats
@@ -21,32 +20,13 @@ import program
 from words import BadWords, plain, run, text_of
 
 MOST_TOLD = 12  # events that are told of a call
-TAG_OF_BOOT, TAG_OF_APPLICATION, TAG_OF_KEY, TAG_OF_ENTRY = 0x01, 0x02, 0x04, 0x20
-
-# An event: whether it is an entry, its processor and registers; of an entry its steps, and its reads by (address, bytes).
-Event = collections.namedtuple("Event", "is_entry cpu registers steps reads", defaults=[0, ()])
 
 
 def read(data):
     """The header of a journal as lines of a trace, and its events."""
-    reader, header, events = journal.Reader(data), [], []
-    reader.take(len(journal.MAGIC))
-    while (tag := reader.take(1)[0]) != journal.END:
-        if tag == TAG_OF_BOOT:
-            header.append("boot {} {} {}".format(*reader.numbers("BBH")))
-        elif tag == TAG_OF_APPLICATION:
-            header.append(f"ta {uuid.UUID(bytes=reader.take(16))} {reader.octets().hex()}")
-        elif tag == TAG_OF_KEY:
-            header.append(f"key {reader.take(32).hex()}")
-        elif tag == TAG_OF_ENTRY:
-            cpu, *registers, steps, count = reader.numbers("B8III")
-            reads = [(reader.numbers("Q")[0], reader.octets()) for _ in range(count)]
-            events.append(Event(True, cpu, registers, steps, reads))
-        else:
-            cpu, *registers = reader.numbers("B8I")
-            events.append(Event(False, cpu, registers))
-        reader.record += 1
-    return header, events
+    records = list(journal.records(journal.Reader(data)))
+    header = [journal.header_line(record) for record in records if not isinstance(record, journal.Event)]
+    return header, [record for record in records if isinstance(record, journal.Event)]
 
 
 def trace_of(header, events):

@@ -1,5 +1,6 @@
 """A journal's records, told one by one, by docs/formats.md, "Journal". It isn't run by itself."""
 
+import collections
 import struct
 import uuid
 
@@ -31,51 +32,86 @@ class Reader:
         return self.take(*self.numbers("I"))
 
 
+# The records of a journal. An event says whether it is an entry; one that is has steps, and its reads as (address, bytes).
+Boot = collections.namedtuple("Boot", "cpus threads frames")
+Application = collections.namedtuple("Application", "name image")
+Key = collections.namedtuple("Key", "octets")
+Event = collections.namedtuple("Event", "is_entry cpu registers steps reads", defaults=[0, ()])
+
+
+def entry_of(reader):
+    cpu, *registers, steps, count = reader.numbers("B8III")
+    return Event(True, cpu, registers, steps, [(reader.numbers("Q")[0], reader.octets()) for _ in range(count)])
+
+
+def exit_of(reader):
+    cpu, *registers = reader.numbers("B8I")
+    return Event(False, cpu, registers)
+
+
+FORMS = {
+    0x01: lambda reader: Boot(*reader.numbers("BBH")),
+    0x02: lambda reader: Application(uuid.UUID(bytes=reader.take(16)), reader.octets()),
+    0x04: lambda reader: Key(reader.take(32)),
+    0x20: entry_of,
+    0x21: exit_of,
+}
+
+
+def records(reader):
+    """The records of a reader's next journal, up to its end; other bytes are a Mismatch."""
+    if reader.take(4) != MAGIC:
+        raise plays.Mismatch("these bytes aren't a journal; behind a trace OUTPUT is wanted")
+    while (tag := reader.take(1)[0]) != END:
+        if tag not in FORMS:
+            raise plays.Mismatch(f"record {reader.record} has the tag {tag:02x}, which is none")
+        yield FORMS[tag](reader)
+        reader.record += 1
+
+
+def header_line(record):
+    """The line of a trace that says what a record of a header does."""
+    if isinstance(record, Boot):
+        return f"boot {record.cpus} {record.threads} {record.frames}"
+    if isinstance(record, Application):
+        return f"ta {record.name} {record.image.hex()}"
+    return f"key {record.octets.hex()}"
+
+
 class Teller:
     """The lines on a journal's records, as Entries; what was known of a call before helps to name what is read and answered."""
 
-    def __init__(self, reader):
-        self.reader, self.play, self.event = reader, plays.Play(), 0
+    def __init__(self):
+        self.play, self.event = plays.Play(), 0
 
-    def boot(self):
-        cpus, threads, frames = self.reader.numbers("BBH")
-        self.play.threads = calls.Threads(threads)
-        yield plays.Entry(0, f"boot {cpus} {threads} {frames}")
+    def tell(self, record):
+        if isinstance(record, Event):
+            yield from self.entry(record) if record.is_entry else self.exit(record)
+            self.event += 1
+            return
+        if isinstance(record, Boot):
+            self.play.threads = calls.Threads(record.threads)
+        yield plays.Entry(0, header_line(record))
 
-    def application(self):
-        name = uuid.UUID(bytes=self.reader.take(16))
-        yield plays.Entry(0, f"ta {name} {self.reader.octets().hex()}")
-
-    def key(self):
-        yield plays.Entry(0, f"key {self.reader.take(32).hex()}")
-
-    def entry(self):
-        cpu, *registers, steps, count = self.reader.numbers("B8III")
-        words = [f"{register:x}" for register in registers]
-        reads = [(self.reader.numbers("Q")[0], self.reader.octets()) for _ in range(count)]
-        for address, data in reads:
-            self.play.lanes.write(str(cpu), f"{address:x}", data.hex())
-        self.play.enter(str(cpu), words)
-        asked = self.play.brought[str(cpu)]
-        yield plays.Entry(0, f"event {self.event}: enter {cpu} {steps} {' '.join(words)}", asked=asked)
-        self.event += 1
-        for address, data in reads:
+    def entry(self, event):
+        cpu, words = str(event.cpu), [f"{register:x}" for register in event.registers]
+        for address, data in event.reads:
+            self.play.lanes.write(cpu, f"{address:x}", data.hex())
+        self.play.enter(cpu, words)
+        asked = self.play.brought[cpu]
+        yield plays.Entry(0, f"event {self.event}: enter {cpu} {event.steps} {' '.join(words)}", asked=asked)
+        for address, data in event.reads:
             note, _ = self.play.places.shown(address, data)
             yield plays.Entry(0, f"  reads {address:08x} {data.hex()}", None, note)
 
-    def exit(self):
-        cpu, *registers = self.reader.numbers("B8I")
+    def exit(self, event):
+        cpu, registers = str(event.cpu), event.registers
         line = " ".join(f"{register:08x}" for register in registers)
-        if str(cpu) not in self.play.function:
+        if cpu not in self.play.function:
             yield plays.Entry(0, f"event {self.event}: leave {cpu} {line}", None, f"an exit before any entry of processor {cpu}")
-            self.event += 1
             return
-        name, note = self.play.answer(str(cpu), registers)
+        name, note = self.play.answer(cpu, registers)
         yield plays.Entry(0, f"event {self.event}: leave {cpu} {line}", None, note, name)
-        self.event += 1
-
-
-TAGS = {0x01: Teller.boot, 0x02: Teller.application, 0x04: Teller.key, 0x20: Teller.entry, 0x21: Teller.exit}
 
 
 def told(data):
@@ -92,13 +128,8 @@ def told(data):
 def tell(reader, entries):
     """Puts the Entries of a reader's journals behind others."""
     while reader.at < len(reader.data) or not entries:
-        if reader.take(4) != MAGIC:
-            raise plays.Mismatch("these bytes aren't a journal; behind a trace OUTPUT is wanted")
-        teller = Teller(reader)
-        while (tag := reader.take(1)[0]) != END:
-            if tag not in TAGS:
-                raise plays.Mismatch(f"record {reader.record} has the tag {tag:02x}, which is none")
-            entries.extend(TAGS[tag](teller))
-            reader.record += 1
+        teller = Teller()
+        for record in records(reader):
+            entries.extend(teller.tell(record))
         entries.append(plays.Entry(0, "end"))
         reader.record += 1
