@@ -1,5 +1,5 @@
 -- A walk over a chain of lists: list by list, and what it finds in all of RAM.
-use Rattle.std.proofs.Common.{◌≡◌, ℕ, zero, suc, ◌+◌, ◌-◌, ◌%◌, ◌<◌, ◌≤◌, Bool, true, false, ◌&&◌, ◌==◌, nat_le, List, [], ◌∷◌, ◌++◌, length, take, min, Option, Some, None, Ok, Err, refl, sym, ◌∙◌, ap, arith, append_assoc, append-nil, length-append, cond}
+use Rattle.std.proofs.Common.{◌≡◌, ℕ, zero, suc, ◌+◌, ◌-◌, ◌%◌, ◌<◌, ◌≤◌, Bool, true, false, ◌&&◌, ◌==◌, nat_le, List, [], ◌∷◌, ◌++◌, length, take, min, Option, Some, None, Ok, Err, IsSomeAnd, refl, sym, ◌∙◌, ap, arith, append_assoc, append-nil, length-append, cond}
 use Rattle.std.proofs.lemmas.Bool.{leb-true, le-leb}
 use Rattle.std.proofs.lemmas.Bool.Decides.{nat_tests}
 use Rattle.std.proofs.lemmas.Option.{option_and_then_some}
@@ -11,7 +11,7 @@ use Rattle.ns_ram.specs.declared.ram.TheConstants.{RAM_START, RAM_BYTES}
 use Rattle.ns_ram.specs.declared.read.Read.{Read}
 use Rattle.ns_ram.specs.Lane.{IsInRam}
 use Rattle.ns_ram.specs.Reader.{Reader, done, ◌>>=◌, up_to_failing, take_bytes, take_words, lane_words, over_lane}
-use Rattle.ns_ram.specs.Pages.{AppendsReads, Walk, is_page, lists_of, walk, walk_lists}
+use Rattle.ns_ram.specs.Pages.{AppendsEntries, AppendsReads, Walk, is_page, lists_of, walk, walk_lists}
 use Rattle.ns_ram.proofs.ReaderLaws.{over_lane-bind, over_lane-taken}
 use Rattle.ns_ram.proofs.ReaderSteps.{HoldsReads-append}
 
@@ -121,6 +121,24 @@ AppendsReads-step reader lane before between after value a e =
       held = HoldsReads-append lane a.taken t.taken a.held t.held;
     }
 
+-- these entries of a list were taken, and stand behind the pages that were found before
+pub record Taken (lane : List ℕ) (list most : ℕ) (before after : List Read) (are_pages : Bool) (found found_then : List ℕ) : Type 0 where
+  pub entries : List ℕ
+  pub taken : over_lane (take_words list most is_page) lane before ≡ Some (entries, after)
+  pub appended : AppendsEntries entries are_pages found found_then
+
+pub taken_there : (lane : List ℕ) (list most : ℕ) (before after : List Read) (are_pages : Bool) (found found_then : List ℕ) →
+    IsSomeAnd (over_lane (take_words list most is_page) lane before) (λ taken. (taken.1 ≡ after) × AppendsEntries taken.0 are_pages found found_then) →
+    Taken lane list most before after are_pages found found_then
+taken_there lane list most before after are_pages found found_then h =
+    let Goal : Option (List ℕ × List Read) → Type 0 = λ o. over_lane (take_words list most is_page) lane before ≡ o → IsSomeAnd o (λ taken. (taken.1 ≡ after) × AppendsEntries taken.0 are_pages found found_then) → Taken lane list most before after are_pages found found_then in
+    let by_cases : (o : Option (List ℕ × List Read)) → Goal o =
+    elim [
+      | None ↦ λ is none. absurd none
+      | Some taken ↦ λ is there. record { entries = taken.0; taken = is ∙ ap (λ reads. Some (taken.0, reads)) there.0; appended = there.1 }
+    ] in
+    by_cases (over_lane (take_words list most is_page) lane before) refl h
+
 -- so far the pages were found, and the walk goes on with this list
 pub record Walked (lane : List ℕ) (chain count : ℕ) (before : List Read) (list : ℕ) (found : List ℕ) (reads : List Read) : Type 0 where
   pub whole : over_lane (walk chain count) lane before ≡ over_lane (walk_lists (lists_of (count - length found)) list (count - length found) found) lane reads
@@ -135,7 +153,7 @@ Walked-bad_list lane chain count before list found reads w bad =
     w.whole ∙ walk-bad_list list (count - length found) found lane reads some bad
 
 -- the list was taken
-pub Walked-list : (lane : List ℕ) (chain count : ℕ) (before : List Read) (list : ℕ) (found : List ℕ) (reads between : List Read) (entries : List ℕ) →
+Walked-list : (lane : List ℕ) (chain count : ℕ) (before : List Read) (list : ℕ) (found : List ℕ) (reads between : List Read) (entries : List ℕ) →
     Walked lane chain count before list found reads → is_page list ≡ true →
     over_lane (take_words list (min (count - length found) 511) is_page) lane reads ≡ Some (entries, between) →
     over_lane (walk chain count) lane before ≡ over_lane (after_list (lists_of (count - length found - 511)) list (count - length found) found entries) lane between
@@ -146,6 +164,16 @@ Walked-list lane chain count before list found reads between entries w good take
 pub after_list-bad : (lists list count : ℕ) (found entries lane : List ℕ) (reads : List Read) → list_all is_page entries ≡ false →
     over_lane (after_list lists list count found entries) lane reads ≡ Some (Err (length (found ++ entries) - 1), reads)
 after_list-bad lists list count found entries lane reads bad = rw bad refl
+
+-- its last entry is no page
+pub Walked-bad_page : (lane : List ℕ) (chain count : ℕ) (before : List Read) (list : ℕ) (found : List ℕ) (reads between : List Read) (entries : List ℕ) →
+    Walked lane chain count before list found reads → is_page list ≡ true →
+    over_lane (take_words list (min (count - length found) 511) is_page) lane reads ≡ Some (entries, between) →
+    list_all is_page entries ≡ false →
+    over_lane (walk chain count) lane before ≡ Some (Err (length (found ++ entries) - 1), between)
+Walked-bad_page lane chain count before list found reads between entries w good taken bad =
+    Walked-list lane chain count before list found reads between entries w good taken
+    ∙ after_list-bad (lists_of (count - length found - 511)) list (count - length found) found entries lane between bad
 
 pub after_list-last : (lists list count : ℕ) (found entries lane : List ℕ) (reads : List Read) → list_all is_page entries ≡ true →
     count ≤ 511 → over_lane (after_list lists list count found entries) lane reads ≡ Some (Ok (found ++ entries), reads)

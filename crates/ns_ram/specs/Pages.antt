@@ -87,6 +87,11 @@ abbrev pub FindsPages : Type 0
 FindsPages = (lane : List ℕ) (list count : ℕ) (before : List Read) → length lane ≡ 0x400000 →
     (after : List Read) × (over_lane (walk list count) lane before ≡ Some (walk_by (first_bad_page lane list count) (page_addresses lane list count), after))
 
+-- these entries of a list stand behind the pages that were found before, and whether each is a page
+pub record AppendsEntries (entries : List ℕ) (are_pages : Bool) (found found_then : List ℕ) : Type 0 where
+  pub added : found_then ≡ found ++ entries
+  pub tested : are_pages ≡ list_all is_page entries
+
 -- what a walk adds to a list of reads, whatever it answers: further reads behind those that the list had,
 -- each with the lane's bytes
 pub record AppendsReads (lane : List ℕ) (before after : List Read) : Type 0 where

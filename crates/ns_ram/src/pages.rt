@@ -2,12 +2,11 @@
 //! is one page: the addresses of 511 pages, and then the address of the next list, eight bytes each with the
 //! least one first (`OPTEE_MSG_ATTR_NONCONTIG` of `optee_msg.h`).
 
-ghost use Rattle.std.specs.Prelude.{◌≡◌, ℕ, ◌+◌, ◌*◌, ◌%◌, ◌<◌, ◌≤◌, ◌↔◌, ◌++◌, length, take, IsTrue, IsErrOf, IfOk, IfErr, OnOk, OnErr, Some, None, Ok, Err};
-ghost use Rattle.std.specs.List.{list_all};
+ghost use Rattle.std.specs.Prelude.{◌≡◌, ℕ, ◌+◌, ◌*◌, ◌%◌, ◌<◌, ◌≤◌, ◌↔◌, length, take, vec_len, vec_capacity, IsTrue, IsErrOf, IsSomeAnd, IfOk, IfErr, OnErr, Some, None, Ok, Err};
 ghost use Rattle.std.specs.Int.{from_le_bytes, w64};
 ghost use Rattle.ns_ram.specs.Lane.{IsInRam};
 ghost use Rattle.ns_ram.specs.PageExamples.{PageExamples};
-ghost use Rattle.ns_ram.specs.Pages.{AppendsReads, FindsPages, IfBadPage, IfMemory, first_bad_page, is_page, page_addresses, walk};
+ghost use Rattle.ns_ram.specs.Pages.{AppendsEntries, AppendsReads, FindsPages, IfBadPage, IfMemory, first_bad_page, is_page, page_addresses, walk};
 ghost use Rattle.ns_ram.specs.Reader.{over_lane, take_words, up_to_failing, words_of};
 
 use crate::lane::Lane;
@@ -138,7 +137,9 @@ fn take_lists(
     ensures bad { IfErr result (λ fault. IfBadPage fault (λ page.
         over_lane (walk list count) lane.now reads.old ≡ Some (Err page, reads.new))) }
 {
-    let mut pages: Vec<u64> = Vec::new(alloc);
+    let Ok(mut pages) = Vec::with_capacity(alloc, count as usize) else {
+        return Err(WalkFault::Memory);
+    };
     if count == 0 {
         return Ok(pages);
     }
@@ -149,9 +150,12 @@ fn take_lists(
             return Err(WalkFault::BadPage(found as u32));
         }
         let left = u64::from(count) - found;
-        let entries = take_entries(alloc, lane, current, left.min(LIST_ENTRIES), reads)?;
-        append(&mut pages, entries.as_slice())?;
-        if !all_pages(entries.as_slice()) {
+        let entries = Entries {
+            list: current,
+            count: left.min(LIST_ENTRIES),
+        };
+        let are_pages = take_entries(alloc, lane, entries, &mut pages, reads)?;
+        if !are_pages {
             return Err(WalkFault::BadPage(pages.len() as u32 - 1));
         }
         if left <= LIST_ENTRIES {
@@ -167,45 +171,62 @@ pub fn page_examples()
     ensures { PageExamples }
 {}
 
-/// Takes the first `most` entries of the list, or those up to and with the first that is no page, as one
-/// read.
+/// The first entries of a list.
+#[derive(Clone, Copy)]
+struct Entries {
+    /// The list's address.
+    list: u64,
+    /// The number of entries.
+    count: u64,
+}
+
+/// Takes the entries, or those up to and with the first that is no page, as one read, and puts them behind the
+/// pages, which have room. Whether each is a page.
 fn take_entries(
     alloc: Global,
     lane: &Lane,
-    list: u64,
-    most: u64,
+    entries: Entries,
+    pages: &mut Vec<u64>,
     reads: &mut Reads,
-) -> Result<Vec<u64>, NoMemory>
-    requires most { most ≤ 511 }
-    requires list { IsInRam list 4096 }
-    ensures ok { IfOk result (λ entries. over_lane (take_words list most is_page) lane.now reads.old
-        ≡ Some (entries.items, reads.new)) }
-    ensures len { IfOk result (λ entries. length entries.items ≤ most) }
+) -> Result<bool, NoMemory>
+    requires few { entries.count ≤ 511 }
+    requires list { IsInRam entries.list 4096 }
+    requires room { vec_len pages.old + entries.count ≤ vec_capacity pages.old }
+    ensures ok { IfOk result (λ are_pages.
+        IsSomeAnd (over_lane (take_words entries.list entries.count is_page) lane.now reads.old) (λ taken.
+        (taken.1 ≡ reads.new) × AppendsEntries taken.0 are_pages pages.old.items pages.new.items)) }
+    ensures len { vec_len pages.new ≤ vec_len pages.old + entries.count }
+    ensures capacity { vec_capacity pages.new ≡ vec_capacity pages.old }
     ensures err { OnErr result (reads.new ≡ reads.old) }
 {
-    let bytes = lane.at(list, 8 * most);
-    let entries = words_up_to_bad(alloc, bytes, most as usize)?;
-    reads.add(alloc, list, &bytes[..8 * entries.len()])?;
-    Ok(entries)
+    let found = pages.len();
+    let bytes = lane.at(entries.list, 8 * entries.count);
+    let are_pages = push_up_to_bad(pages, bytes, entries.count as usize);
+    let taken = pages.len() - found;
+    reads.add(alloc, entries.list, &bytes[..8 * taken])?;
+    Ok(are_pages)
 }
 
-/// The words that the bytes make, or those up to and with the first that is no page.
-fn words_up_to_bad(alloc: Global, bytes: &[u8], count: usize) -> Result<Vec<u64>, NoMemory>
+/// Puts the words that the bytes make behind the pages, or those up to and with the first that is no page. Whether
+/// each is a page.
+fn push_up_to_bad(pages: &mut Vec<u64>, bytes: &[u8], count: usize) -> bool
     requires whole { length bytes.now ≡ 8 * count }
     requires few { count ≤ 511 }
-    ensures ok { IfOk result (λ words. up_to_failing is_page (words_of count bytes.now) count
-        ≡ Some words.items) }
-    ensures len { IfOk result (λ words. length words.items ≤ count) }
+    requires room { vec_len pages.old + count ≤ vec_capacity pages.old }
+    ensures words { IsSomeAnd (up_to_failing is_page (words_of count bytes.now) count) (λ words.
+        AppendsEntries words result pages.old.items pages.new.items) }
+    ensures kept { vec_len pages.old ≤ vec_len pages.new }
+    ensures len { vec_len pages.new ≤ vec_len pages.old + count }
+    ensures capacity { vec_capacity pages.new ≡ vec_capacity pages.old }
 {
-    let mut words = Vec::new(alloc);
     for i in 0..count {
         let word = first_word(&bytes[8 * i..]);
-        words.push(word)?;
+        pages.push_reserved(word);
         if !is_page(word) {
-            return Ok(words);
+            return false;
         }
     }
-    Ok(words)
+    true
 }
 
 /// The word that the bytes begin with.
@@ -216,17 +237,4 @@ fn first_word(bytes: &[u8]) -> u64
     let mut word = [0; 8];
     word.copy_from_slice(&bytes[..8]);
     u64::from_le_bytes(word)
-}
-
-/// Whether each of the addresses is that of a page.
-fn all_pages(addresses: &[u64]) -> bool
-    ensures { result ≡ list_all is_page addresses.now }
-{
-    addresses.iter().all(|addr| is_page(*addr))
-}
-
-fn append(pages: &mut Vec<u64>, more: &[u64]) -> Result<(), NoMemory>
-    ensures ok { OnOk result (pages.new.items ≡ pages.old.items ++ more.now) }
-{
-    Ok(pages.extend_from_slice(more)?)
 }

@@ -1,11 +1,7 @@
-use Rattle.std.proofs.Common.{◌≡◌, List, ℕ, length, arith}
-use Rattle.ns_ram.proofs.PageScan.{over_lane-take_words}
+use Rattle.std.proofs.Common.{◌-◌, arith}
+use Rattle.ns_ram.proofs.PageScan.{taken-from_lane}
 use Rattle.ns_ram.proofs.pages.take_entries.Goals as goal
 
 pub returns-clause-ok : goal.returns-clause-ok
 returns-clause-ok c =
-    let words : List ℕ = c.in_ok-entries.entries.items in
-    let len : c.len.result ≡ length words = omega arith in
-    over_lane-take_words c.args.lane.now c.args.list c.args.most c.args.reads.now c.add.new.self words c.at-bytes.ensures.whole c.requires.list c.requires.most c.in_ok-entries.ensures.len
-    (rw c.at-bytes.ensures.bytes at c.in_ok-entries.ensures.ok)
-    (rw (← c.at-bytes.ensures.bytes, ← len) c.in_ok-add.ensures.ok)
+    taken-from_lane c.args.lane.now c.args.entries.list c.args.entries.count c.args.reads.now c.add.new.self c.at-bytes.result.now c.args.pages.now.items c.push_up_to_bad-are_pages.new.pages.items c.push_up_to_bad-are_pages.result (c.len.result - c.len-found.result) c.at-bytes.ensures.whole c.requires.list c.requires.few c.at-bytes.ensures.bytes (omega arith) c.in_ok-add.ensures.ok c.push_up_to_bad-are_pages.ensures.words
