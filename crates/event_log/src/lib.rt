@@ -1,0 +1,18 @@
+//! All events at the border of a core so far, kept as data, or counted and let go of.
+//!
+//! Contracts see the same of a log in both forms: the list of its events, and how many more have room. Only one that keeps
+//! them can lend them as data; both know how many there were, how many bytes they copied, and the last entry of each
+//! processor.
+#![tactic(auto)]
+
+mod counted;
+mod examples;
+mod kept;
+mod last_entries;
+mod log;
+mod who_entered;
+
+pub use base::NoMemory;
+pub use event_journal::{Event, Journal};
+pub use examples::worked_examples;
+pub use log::Log;
