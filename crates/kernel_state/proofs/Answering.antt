@@ -99,6 +99,7 @@ same_kernel one other e = cc
 abbrev unchanged : (old new : Core) (cpu : ℕ) → IsAsBefore old new → ChangedByOthers old new cpu
 unchanged old new cpu same = record {
   boot = same.boot;
+  terms = same.terms;
   between = [];
   others = tt;
   events = same.events ∙ sym (append-nil (events_of old));

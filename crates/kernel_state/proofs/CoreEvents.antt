@@ -22,7 +22,7 @@ use Rattle.kernel_state.specs.Entering.{CanEnter, visit_of}
 use Rattle.kernel_state.specs.Laws.{CoreEntry, CoreExit, JournalsStayLegal}
 use Rattle.kernel_state.specs.Meaning.{booted_of, events_of, kernel_of}
 use Rattle.kernel_state.specs.declared.kernel_core.Core.{Core}
-use Rattle.kernel_state.proofs.Told.{is_legal}
+use Rattle.kernel_state.proofs.Told.{few_bytes, is_legal, reads_agree, reads_ram}
 
 -- ---- the kernel of a core
 
@@ -128,6 +128,9 @@ left_so left =
 pub journals_legal : JournalsStayLegal
 journals_legal = record {
   legal = core_is_legal;
+  few = λ core. few_bytes core.parts core.replay;
+  agree = λ core. reads_agree core.parts core.replay;
+  in_ram = λ core. reads_ram core.parts core.replay;
   could_enter = could_enter;
   entered = λ entry. (entry_came_in entry).entered;
   exits = exits;

@@ -1,5 +1,5 @@
 -- The parts of a core where nothing has happened.
-use Rattle.std.proofs.Common.{◌≡◌, ℕ, List, [], ◌∷◌, length, Some, refl, sym, ◌∙◌, ap, subst, arith, zero, suc, lit≤}
+use Rattle.std.proofs.Common.{◌≡◌, ℕ, ◌≤◌, ◌^◌, List, [], ◌∷◌, length, Some, refl, sym, ◌∙◌, ap, subst, arith, zero, suc}
 use Rattle.std.specs.Prelude.{map, replicate, slice_get, count_by, not, ◌-◌}
 use Rattle.std.specs.Global.{Box}
 use Rattle.std.proofs.Math.ListN.{length-replicate}
@@ -50,6 +50,9 @@ processors_first processors cpus all = rw (all, length-replicate) (outside cpus)
 all_free : (n : ℕ) → n ≡ n - 0
 all_free n = omega arith
 
+none_is_few : (most : ℕ) → 0 ≤ most
+none_is_few most = omega arith
+
 -- parts made of tables where nothing is kept stand for the first kernel
 pub first_stands : (parts : Parts) (beside : Cancellation) →
     parts.slots ≡ replicate parts.setup.threads Free →
@@ -78,8 +81,8 @@ first_stands parts beside slots besides processors tables pool =
 -- where nothing has happened, they do
 pub opened : (parts : Parts) (boot : Boot) (natives : List Native) →
     boot_of parts.setup ≡ boot → natives_of parts.setup ≡ natives → IsBoot boot → AreNatives boot natives →
-    parts.journal.events ≡ [] → StandsFor parts (first_kernel (booted_with parts.setup)) → ∥ Replays parts ∥₁
-opened parts boot natives same_boot same_natives is_boot are_natives none stands =
+    parts.journal.events ≡ [] → parts.journal.keeps ≡ parts.setup.terms.keeps → parts.setup.terms.most ≤ 2 ^ 63 → StandsFor parts (first_kernel (booted_with parts.setup)) → ∥ Replays parts ∥₁
+opened parts boot natives same_boot same_natives is_boot are_natives none keeps bounded stands =
     let comes : (events : List Event) → events ≡ [] → kernel_after (booted_with parts.setup) events ≡ Some (first_kernel (booted_with parts.setup)) = λ events is. ap (kernel_after (booted_with parts.setup)) is in
     ∣ record {
       kernel = first_kernel (booted_with parts.setup);
@@ -87,6 +90,8 @@ opened parts boot natives same_boot same_natives is_boot are_natives none stands
       are_natives = subst (λ boot. AreNatives boot (natives_of parts.setup)) (sym same_boot) (subst (AreNatives boot) (sym same_natives) are_natives);
       comes_to = comes parts.journal.events none;
       stands = stands;
-      few = rw none (lit≤ tt);
+      keeps = keeps;
+      few = rw none (none_is_few parts.setup.terms.most);
+      bounded = bounded;
       agree = rw none tt;
     } ∣₁

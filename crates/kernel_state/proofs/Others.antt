@@ -171,6 +171,7 @@ all_append cpu (first ∷ events) more all rest = (all.0, all_append cpu events 
 in_turn : (old mid new : Core) (cpu : ℕ) → ChangedByOthers old mid cpu → ChangedByOthers mid new cpu → ChangedByOthers old new cpu
 in_turn old mid new cpu first second = record {
   boot = second.boot ∙ first.boot;
+  terms = second.terms ∙ first.terms;
   between = first.between ++ second.between;
   others = all_append cpu first.between second.between first.others second.others;
   events = second.events ∙ ap (λ (events : List Event). events ++ second.between) first.events
@@ -181,12 +182,14 @@ pub works_stay : WorkStays
 works_stay = record {
   entered = λ entry cpu apart. record {
     boot = entry.has_entered.boot;
+    terms = entry.has_entered.terms;
     between = event.Entry entry.coming.cpu entry.coming.regs entry.coming.steps entry.has_entered.reads ∷ [];
     others = (apart, tt);
     events = entry.has_entered.events;
   };
   left = λ left cpu apart. record {
     boot = left.has_left.boot;
+    terms = left.has_left.terms;
     between = event.Exit left.ran.cpu left.told ∷ [];
     others = (apart, tt);
     events = left.has_left.events;

@@ -62,8 +62,20 @@ is_legal parts fact = record {
   follows = ∥∥₁_elim fact (follows_prop (booted_with parts.setup) parts.journal.events) (λ (so : Replays parts). rw so.comes_to refl);
 }
 
-pub few_bytes : (parts : Parts) → ∥ Replays parts ∥₁ → copied_bytes parts.journal.events ≤ 2 ^ 28
+few_within : (copied most : ℕ) → copied ≤ most → most ≤ 2 ^ 63 → copied ≤ 2 ^ 63
+few_within copied most few bounded = omega arith
+
+-- a core that is to keep its events does
+pub kept_so : (parts : Parts) → ∥ Replays parts ∥₁ → parts.journal.keeps ≡ parts.setup.terms.keeps
+kept_so parts fact = ∥∥₁_elim fact (Prim.hlevel props) (λ (so : Replays parts). so.keeps)
+
+pub few_bytes : (parts : Parts) → ∥ Replays parts ∥₁ → copied_bytes parts.journal.events ≤ parts.setup.terms.most
 few_bytes parts fact = ∥∥₁_elim fact (Prim.hlevel props) (λ (so : Replays parts). so.few)
+
+-- on any terms
+pub few_events : (parts : Parts) → ∥ Replays parts ∥₁ → copied_bytes parts.journal.events ≤ 2 ^ 63
+few_events parts fact = ∥∥₁_elim fact (Prim.hlevel props) (λ (so : Replays parts).
+    few_within (copied_bytes parts.journal.events) parts.setup.terms.most so.few so.bounded)
 
 agree_prop : (event : Event) → IsProp (ReadsAgree event)
 agree_prop (Entry cpu regs steps reads) = Prim.hlevel props

@@ -13,7 +13,7 @@ use Rattle.ns_ram.specs.Reader.{over_lane}
 use Rattle.ns_ram.specs.Reads.{HoldsReads, total_bytes}
 use Rattle.ns_ram.specs.declared.read.Read.{Read}
 use Rattle.smc_abi.specs.declared.regs.Regs.{Regs}
-use Rattle.kernel_state.specs.Meaning.{booted_of, events_of, kernel_of}
+use Rattle.kernel_state.specs.Meaning.{booted_of, events_of, kernel_of, terms_of}
 use Rattle.kernel_state.specs.Work.{IsWorkOf}
 use Rattle.kernel_state.specs.declared.enter_refusal.EnterRefusal.{EnterRefusal}
 use Rattle.kernel_state.specs.declared.enter_refusal.EnterRefusal.TheVariants.{Full, Memory}
@@ -38,6 +38,7 @@ pub record CanEnter (core : Core) (coming : Coming) : Type 0 where
 -- the core is as it was
 pub record IsAsBefore (old new : Core) : Type 0 where
   pub boot : booted_of new ≡ booted_of old
+  pub terms : terms_of new ≡ terms_of old
   pub events : events_of new ≡ events_of old
 
 -- ---- an entry
@@ -52,6 +53,7 @@ HasWork core work = HasWorkAfter (booted_of core) (events_of core) work
 -- it has come in, and this is its work
 pub record HasEntered (old new : Core) (coming : Coming) (lane : List ℕ) (work : Work) : Type 0 where
   pub boot : booted_of new ≡ booted_of old
+  pub terms : terms_of new ≡ terms_of old
   -- what it has read, each once
   pub reads : List Read
   pub from_lane : HoldsReads lane reads
@@ -67,20 +69,21 @@ pub record HasEntered (old new : Core) (coming : Coming) (lane : List ℕ) (work
 abbrev pub bytes_read : Booted → List ℕ → Visit → Kernel → Option ℕ
 bytes_read boot lane visit kernel = option_map (λ end. total_bytes end.1) (over_lane (entry boot kernel visit) lane [])
 
--- after this history, whose entries have read so many bytes, there are more than 2^28 with those that it would read
-pub record IsTooMuchAfter (boot : Booted) (history : List Event) (coming : Coming) (lane : List ℕ) (copied more : ℕ) : Type 0
-  where
-    pub so_far : copied ≡ copied_bytes history
-    pub of_entry : option_and_then (bytes_read boot lane (visit_of coming)) (kernel_after boot history) ≡ Some more
-    pub above : 2 ^ 28 < copied + more
+-- after this history, whose entries have read so many bytes, there are more than the most with those that it would read
+pub record IsTooMuchAfter (boot : Booted) (most : ℕ) (history : List Event) (coming : Coming) (lane : List ℕ) (copied more : ℕ)
+    : Type 0 where
+  pub so_far : copied ≡ copied_bytes history
+  pub of_entry : option_and_then (bytes_read boot lane (visit_of coming)) (kernel_after boot history) ≡ Some more
+  pub above : most < copied + more
 
 abbrev pub IsTooMuch : Core → Coming → List ℕ → ℕ → ℕ → Type 0
-IsTooMuch core coming lane copied more = IsTooMuchAfter (booted_of core) (events_of core) coming lane copied more
+IsTooMuch core coming lane copied more =
+    IsTooMuchAfter (booted_of core) (terms_of core).most (events_of core) coming lane copied more
 
 -- ---- both
 
 -- what the answer says of the core before and after. That an entry whose bytes are too many never comes in is a fact of
--- each core, whose reads have at most 2^28 bytes
+-- each core, whose reads have at most as many bytes as its terms allow
 abbrev pub Enters : Core → Core → Coming → List ℕ → Result Work EnterRefusal → Type 0
 Enters old new coming lane (Ok work) = HasEntered old new coming lane work
 Enters old new coming lane (Err (Full copied more)) = IsAsBefore old new × IsTooMuch old coming lane copied more

@@ -1,6 +1,7 @@
 -- What the contracts of an entry and an exit say, over all cores.
-use Rattle.std.specs.Prelude.{◌≡◌, ◌≢◌, ◌↔◌, ℕ, List, ◌++◌, length, Option, Some, None, slice_get}
+use Rattle.std.specs.Prelude.{◌≡◌, ◌≢◌, ◌↔◌, ◌≤◌, ℕ, List, ◌++◌, length, Option, Some, None, slice_get}
 use Rattle.std.specs.List.{AllByRecursion}
+use Rattle.event_journal.specs.Journal.{copied_bytes}
 use Rattle.event_journal.specs.declared.event.Event.{Event}
 use Rattle.kernel_model.specs.Argument.{client_in, reg, thread_in}
 use Rattle.kernel_model.specs.Codes.{eresume, ethread_limit}
@@ -11,6 +12,7 @@ use Rattle.kernel_model.specs.History.{IsLater, IsLegal, Resumes, ResumesCall}
 use Rattle.kernel_model.specs.Kernel.{Fixed, InSlot, Inside, Kernel, PendingCall, Suspended, Visit, lowest_free, with_visitor, without_visitor}
 use Rattle.kernel_model.specs.Laws.{FindsNoCall, FindsNoSlot, IsFixed, IsOfOther}
 use Rattle.kernel_model.specs.Resume.{call_resumed_by}
+use Rattle.kernel_model.specs.Turns.{ReadsRam}
 use Rattle.smc_abi.specs.Answer.{registers_of}
 use Rattle.smc_abi.specs.Call.{call_of}
 use Rattle.smc_abi.specs.declared.answer.Answer.{Answer}
@@ -18,7 +20,8 @@ use Rattle.smc_abi.specs.declared.call.Call.TheVariants.{Resume}
 use Rattle.smc_abi.specs.declared.regs.Regs.{Regs}
 use Rattle.kernel_state.specs.Entering.{CanEnter, Coming, HasEntered, HasWork, HasWorkAfter, IsAsBefore, visit_of}
 use Rattle.kernel_state.specs.Leaving.{CanLeave, CanLeaveAfter, HasLeft}
-use Rattle.kernel_state.specs.Meaning.{booted_of, events_of, free_slots_in, kernel_of}
+use Rattle.kernel_state.specs.Meaning.{booted_of, events_of, free_slots_in, kernel_of, terms_of}
+use Rattle.kernel_state.specs.Reads.{ReadsAgree}
 use Rattle.kernel_state.specs.Work.{IsRanOf}
 use Rattle.kernel_state.specs.declared.carried.Carried.TheVariants.{Nothing}
 use Rattle.kernel_state.specs.declared.kernel_core.Core.{Core}
@@ -61,6 +64,11 @@ regs_of entry = entry.coming.regs.a
 -- the journal of each core is a legal history, and what was added to it is what the kernel's entry and exit make
 pub record JournalsStayLegal : Type 0 where
   pub legal : (core : Core) → IsLegal (booted_of core) (events_of core)
+  -- its entries have together read as many bytes as its terms allow, or fewer. Each read has some, all of them in RAM, and those of
+  -- one entry agree
+  pub few : (core : Core) → copied_bytes (events_of core) ≤ (terms_of core).most
+  pub agree : (core : Core) → AllByRecursion ReadsAgree (events_of core)
+  pub in_ram : (core : Core) → AllByRecursion ReadsRam (events_of core)
   -- the processor could come in, and the kernel is the one after its entry
   pub could_enter : (entry : CoreEntry) → CanEnter entry.old entry.coming
   pub entered : (entry : CoreEntry) →
@@ -74,6 +82,7 @@ pub record JournalsStayLegal : Type 0 where
 -- between these cores only processors other than this one have come in and gone out
 pub record ChangedByOthers (old new : Core) (cpu : ℕ) : Type 0 where
   pub boot : booted_of new ≡ booted_of old
+  pub terms : terms_of new ≡ terms_of old
   pub between : List Event
   pub others : AllByRecursion (IsOfOther cpu) between
   pub events : events_of new ≡ events_of old ++ between

@@ -7,7 +7,7 @@ use Rattle.kernel_model.specs.Exit.{Exited}
 use Rattle.kernel_model.specs.History.{exit_after, kernel_after}
 use Rattle.ns_ram.specs.Writes.{lane_after}
 use Rattle.smc_abi.specs.declared.regs.Regs.{Regs}
-use Rattle.kernel_state.specs.Meaning.{booted_of, events_of}
+use Rattle.kernel_state.specs.Meaning.{booted_of, events_of, terms_of}
 use Rattle.kernel_state.specs.Work.{IsRanFor}
 use Rattle.kernel_state.specs.declared.kernel_core.Core.{Core}
 use Rattle.kernel_state.specs.declared.work.Ran.{Ran}
@@ -22,6 +22,7 @@ CanLeave core ran = CanLeaveAfter (booted_of core) (events_of core) ran
 -- it has gone out with these registers. The lane's bytes decide nothing of it
 pub record HasLeft (old new : Core) (ran : Ran) (lane now : List ℕ) (told : Regs) : Type 0 where
   pub boot : booted_of new ≡ booted_of old
+  pub terms : terms_of new ≡ terms_of old
   pub events : events_of new ≡ events_of old ++ Exit ran.cpu told ∷ []
   -- the exit of the kernel, its registers and its writes
   pub exited : Exited

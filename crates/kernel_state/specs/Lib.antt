@@ -15,4 +15,5 @@ pub mod Replay
 pub mod Setup
 pub mod StandsFor
 pub mod Tables
+pub mod Terms
 pub mod Work

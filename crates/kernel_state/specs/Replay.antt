@@ -17,6 +17,9 @@ pub record Replays (parts : Parts) : Type 0 where
   pub are_natives : AreNatives (boot_of parts.setup) (natives_of parts.setup)
   pub comes_to : kernel_after (booted_with parts.setup) parts.journal.events ≡ Some kernel
   pub stands : StandsFor parts kernel
-  -- all reads have together at most 2^28 bytes, and those of one entry agree
-  pub few : copied_bytes parts.journal.events ≤ 2 ^ 28
+  -- events are kept where its terms say so
+  pub keeps : parts.journal.keeps ≡ parts.setup.terms.keeps
+  -- all reads have together at most as many bytes as its terms allow, and those of one entry agree
+  pub few : copied_bytes parts.journal.events ≤ parts.setup.terms.most
+  pub bounded : parts.setup.terms.most ≤ 2 ^ 63
   pub agree : AllByRecursion ReadsAgree parts.journal.events

@@ -7,6 +7,7 @@ use Rattle.kernel_state.specs.declared.setup.Application.{Application as AnyAppl
 use Rattle.kernel_state.specs.declared.setup.Application.TheVariants as any
 use Rattle.kernel_state.specs.declared.setup.Setup.{Setup}
 use Rattle.kernel_state.specs.declared.shared_app.SharedApp.{SharedApp}
+use Rattle.kernel_state.specs.declared.terms.Terms.{Terms}
 
 abbrev pub app_of : SharedApp → App
 app_of shared = record { uuid = shared.uuid; image = shared.image.value }
@@ -33,3 +34,11 @@ natives_of setup = map (λ app. (app.uuid, app.relation)) setup.natives
 -- the boot, and the applications that are built in
 abbrev pub booted_with : Setup → Booted
 booted_with setup = booted (boot_of setup) (natives_of setup)
+
+-- the boot, the applications that are built in, and the terms
+pub record Basis : Type 0 where
+  pub boot : Booted
+  pub terms : Terms
+
+abbrev pub basis_with : Setup → Basis
+basis_with setup = record { boot = booted_with setup; terms = setup.terms }

@@ -1,11 +1,12 @@
-ghost use Rattle.std.specs.Prelude.{◌≡◌, ◌<◌, ◌≤◌, ◌↔◌, ℕ, List, [], map, false, replicate, Some, IfNone, IfOk, IsErrOf};
+ghost use Rattle.std.specs.Prelude.{◌≡◌, ◌<◌, ◌≤◌, ◌^◌, ◌↔◌, ℕ, List, [], map, false, replicate, Some, IfNone, IfOk, IsErrOf};
 ghost use Rattle.kernel_model.specs.Application.{AreNatives, booted};
 ghost use Rattle.kernel_model.specs.Kernel.{first_kernel, first_tables};
 ghost use Rattle.kernel_state.specs.Booting.{IsWithinLimits, first_repeated};
 ghost use Rattle.kernel_state.specs.Setup.{app_of, boot_of, booted_with, natives_of};
 ghost use Rattle.kernel_state.specs.StandsFor.{StandsFor};
 ghost use Rattle.kernel_state.specs.Tables.{tables_of};
-ghost use Rattle.kernel_state.specs.Meaning.{booted_of, events_of};
+ghost use Rattle.kernel_state.specs.Terms.{kept_terms};
+ghost use Rattle.kernel_state.specs.Meaning.{booted_of, events_of, terms_of};
 ghost use Rattle.kernel_state.specs.declared.boot_fault.BootFault.TheVariants.{Repeated};
 ghost use Rattle.kernel_state.specs.declared.processor.Processor.TheVariants.{Outside};
 ghost use Rattle.native_tas.specs.Table.{entries};
@@ -22,8 +23,9 @@ use crate::repeats::first_repeated;
 use crate::setup::Setup;
 use crate::shared_app::SharedApp;
 use crate::tables::Tables;
+use crate::terms::Terms;
 use base::{NoMemory, Sequence};
-use event_journal::Journal;
+use event_log::Log;
 use frame_pool::{Pages, Pool};
 use native_tas::Natives;
 use rpc_cont::Cont;
@@ -110,9 +112,10 @@ fn first_tables(alloc: Global, frames: u16) -> Result<Tables, NoMemory>
 }
 
 /// What a core of this boot keeps of it.
-fn setup_of(alloc: Global, boot: Boot, natives: &Natives) -> Result<Setup, NoMemory>
+fn setup_of(alloc: Global, boot: Boot, natives: &Natives, terms: Terms) -> Result<Setup, NoMemory>
     ensures boot { IfOk result (λ setup. boot_of setup ≡ boot) }
     ensures natives { IfOk result (λ setup. natives_of setup ≡ entries natives.now) }
+    ensures terms { IfOk result (λ setup. setup.terms ≡ terms) }
 {
     let Boot {
         cpus,
@@ -128,18 +131,38 @@ fn setup_of(alloc: Global, boot: Boot, natives: &Natives) -> Result<Setup, NoMem
         apps: shared_apps(alloc, apps)?,
         key,
         natives: Sequence::of(natives.apps(alloc)?),
+        terms,
     })
 }
 
+/// A log where nothing has happened, which keeps the events to come or counts them.
+fn first_log(alloc: Global, keeps: bool) -> Result<Log, NoMemory>
+    ensures events { IfOk result (λ log. log.events ≡ []) }
+    ensures keeps { IfOk result (λ log. log.keeps ≡ keeps) }
+{
+    if keeps {
+        Ok(Log::keeping(alloc))
+    } else {
+        Log::counting(alloc)
+    }
+}
+
 /// The parts of a core where nothing has happened.
-fn first_parts(alloc: Global, boot: Boot, natives: &Natives) -> Result<Parts, NoMemory>
+fn first_parts(
+    alloc: Global,
+    boot: Boot,
+    natives: &Natives,
+    terms: Terms,
+) -> Result<Parts, NoMemory>
     requires { IsWithinLimits boot }
     ensures boot { IfOk result (λ parts. boot_of parts.setup ≡ boot) }
     ensures natives { IfOk result (λ parts. natives_of parts.setup ≡ entries natives.now) }
+    ensures terms { IfOk result (λ parts. parts.setup.terms ≡ terms) }
     ensures events { IfOk result (λ parts. parts.journal.events ≡ []) }
+    ensures keeps { IfOk result (λ parts. parts.journal.keeps ≡ parts.setup.terms.keeps) }
     ensures stands { IfOk result (λ parts. StandsFor parts (first_kernel (booted_with parts.setup))) }
 {
-    let setup = setup_of(alloc, boot, natives)?;
+    let setup = setup_of(alloc, boot, natives, terms)?;
     parts_with(alloc, setup)
 }
 
@@ -148,6 +171,7 @@ fn parts_with(alloc: Global, setup: Setup) -> Result<Parts, NoMemory>
     requires { IsWithinLimits (boot_of setup) }
     ensures setup { IfOk result (λ parts. parts.setup ≡ setup) }
     ensures events { IfOk result (λ parts. parts.journal.events ≡ []) }
+    ensures keeps { IfOk result (λ parts. parts.journal.keeps ≡ setup.terms.keeps) }
     ensures stands { IfOk result (λ parts. StandsFor parts (first_kernel (booted_with parts.setup))) }
 {
     let cancellations = free_cancellations(alloc, setup.threads)?;
@@ -155,6 +179,7 @@ fn parts_with(alloc: Global, setup: Setup) -> Result<Parts, NoMemory>
     let blanks = Blanks::new(alloc, setup.threads)?;
     let slots = free_slots(alloc, setup.threads)?;
     let tables = first_tables(alloc, setup.frames)?;
+    let journal = first_log(alloc, setup.terms.keeps)?;
     Ok(Parts {
         setup,
         slots,
@@ -162,17 +187,36 @@ fn parts_with(alloc: Global, setup: Setup) -> Result<Parts, NoMemory>
         processors,
         tables,
         blanks,
-        journal: Journal::new(alloc),
+        journal,
     })
 }
 
 impl Core {
-    #[tactic(auto, using(crate::proofs::Opened::opened))]
-    /// A core where nothing has happened, of a boot within the limits and of applications that are built in. Repeated
-    /// exactly where a UUID stands twice, and else Memory where there is too little.
+    /// A core where nothing has happened, of a boot within the limits and of applications that are built in. It keeps its events, and
+    /// its entries may read 2^28 bytes. Repeated exactly where a UUID stands twice, and else Memory where there is too little.
     pub fn boot(alloc: Global, boot: Boot, natives: &Natives) -> Result<Core, BootFault>
         requires { IsWithinLimits boot }
         ensures booted { IfOk result (λ core. booted_of core ≡ booted boot (entries natives.now)) }
+        ensures terms { IfOk result (λ core. terms_of core ≡ kept_terms) }
+        ensures events { IfOk result (λ core. events_of core ≡ []) }
+        ensures repeated { (uuid : List ℕ) → (IsErrOf result (Repeated uuid)
+            ↔ (first_repeated (map (λ native. native.0) (entries natives.now)) (map (λ app. app.uuid) boot.apps) ≡ Some uuid)) }
+    {
+        Core::boot_on(alloc, boot, natives, Terms::KEPT)
+    }
+
+    #[tactic(auto, using(crate::proofs::Opened::opened))]
+    /// The same on other terms: its events are kept, or counted, and its entries may read another number of bytes.
+    pub fn boot_on(
+        alloc: Global,
+        boot: Boot,
+        natives: &Natives,
+        terms: Terms,
+    ) -> Result<Core, BootFault>
+        requires limits { IsWithinLimits boot }
+        requires bounded { terms.most ≤ 2 ^ 63 }
+        ensures booted { IfOk result (λ core. booted_of core ≡ booted boot (entries natives.now)) }
+        ensures terms { IfOk result (λ core. terms_of core ≡ terms) }
         ensures events { IfOk result (λ core. events_of core ≡ []) }
         ensures repeated { (uuid : List ℕ) → (IsErrOf result (Repeated uuid)
             ↔ (first_repeated (map (λ native. native.0) (entries natives.now)) (map (λ app. app.uuid) boot.apps) ≡ Some uuid)) }
@@ -180,7 +224,7 @@ impl Core {
         if let Some(uuid) = repeated(&boot, natives) {
             return Err(BootFault::Repeated(uuid));
         }
-        let Ok(parts) = first_parts(alloc, boot, natives) else {
+        let Ok(parts) = first_parts(alloc, boot, natives, terms) else {
             return Err(BootFault::Memory);
         };
         Ok(Core { parts })

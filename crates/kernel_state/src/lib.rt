@@ -23,6 +23,7 @@ mod running;
 mod setup;
 mod shared_app;
 mod tables;
+mod terms;
 mod work;
 
 pub use blanks::Blanks;
@@ -43,4 +44,5 @@ pub use setup::{Application, Setup};
 pub use shared_app::SharedApp;
 pub use ta_isa::{App, Boot};
 pub use tables::Tables;
+pub use terms::Terms;
 pub use work::{Ran, Work};

@@ -5,24 +5,23 @@ use base::Logged;
 use event_journal::Event;
 use std::marker::Model;
 
-/// What a core was booted with, as contracts see it: the boot, and the UUID and relation of each built-in application. No
-/// value of it is made.
+/// What a core was booted with, as contracts see it: the boot, the UUID and relation of each built-in application, and the terms.
+/// No value of it is made.
 pub struct CoreBasis {
     setup: Setup,
 }
 
 impl Model for CoreBasis {
-    ghost use Rattle.kernel_model.specs.Application.{Booted};
-    ghost use Rattle.kernel_state.specs.Setup.{booted_with};
+    ghost use Rattle.kernel_state.specs.Setup.{Basis, basis_with};
 
-    ghost Value = { Booted };
+    ghost Value = { Basis };
 
-    ghost view = { λ basis. booted_with basis.setup };
+    ghost view = { λ basis. basis_with basis.setup };
 }
 
 impl Logged for Core {
     ghost use Rattle.kernel_model.specs.Turns.{cpu_of};
-    ghost use Rattle.kernel_state.specs.Meaning.{booted_of, events_of};
+    ghost use Rattle.kernel_state.specs.Meaning.{core_basis, events_of};
 
     type Entry = Event;
 
@@ -32,7 +31,7 @@ impl Logged for Core {
 
     ghost maker = { cpu_of };
 
-    ghost basis = { booted_of };
+    ghost basis = { core_basis };
 
     fn length(&self) -> u64 {
         self.parts.journal.len()

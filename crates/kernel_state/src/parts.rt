@@ -3,7 +3,7 @@ use crate::cancellation::Cancellation;
 use crate::processor::Processor;
 use crate::setup::Setup;
 use crate::tables::Tables;
-use event_journal::Journal;
+use event_log::Log;
 use frame_pool::Pages;
 use rpc_cont::Cont;
 use thread_slots::Slots;
@@ -21,6 +21,6 @@ pub struct Parts {
     pub tables: Tables,
     /// Boxes for new calls.
     pub blanks: Blanks,
-    /// All events, with room for the exits of the processors that are inside.
-    pub journal: Journal,
+    /// All events, kept or counted, with room for the exits of the processors that are inside.
+    pub journal: Log,
 }

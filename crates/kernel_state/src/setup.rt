@@ -7,12 +7,13 @@ ghost use Rattle.kernel_model.specs.Instances.{is_multi_session, is_single, keep
 ghost use Rattle.kernel_state.specs.Setup.{application_of, booted_with};
 
 use crate::shared_app::SharedApp;
+use crate::terms::Terms;
 use base::{NoMemory, Sequence};
 use native_tas::NativeApp;
 use tee_storage::Key;
 use uuid::Uuid;
 
-/// What a core was booted with. No call changes it.
+/// What a core was booted with, and on which terms. No call changes it.
 #[derive(Drop)]
 pub struct Setup {
     /// How many processors, thread slots and frames there are.
@@ -25,6 +26,8 @@ pub struct Setup {
     pub key: Key,
     /// The applications that are built in.
     pub natives: Sequence<NativeApp>,
+    /// What becomes of its events, and how much its entries may read.
+    pub terms: Terms,
 }
 
 /// An application that a core was booted with.
