@@ -163,6 +163,7 @@ own_as_before old new cpu ran same is = own_stays old new cpu ran (unchanged old
     unchanged : (old new : Core) (cpu : ℕ) → IsAsBefore old new → ChangedByOthers old new cpu
     unchanged old new cpu same = record {
       boot = same.boot;
+      terms = same.terms;
       between = [];
       others = tt;
       events = same.events ∙ sym (append-nil (events_of old));

@@ -15,7 +15,7 @@ mod went_out;
 mod working;
 
 pub use base::NoMemory;
-pub use booting::core_of;
+pub use booting::{core_of, core_on};
 pub use core_at_work::CoreAtWork;
 pub use went_out::WentOut;
 pub use working::MOST_STEPS;

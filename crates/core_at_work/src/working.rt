@@ -1,5 +1,5 @@
 //! What is done with a core at work: its processors come in and go out.
-ghost use Rattle.std.specs.Prelude.{◌≡◌, ◌↔◌, [], IfOk, IsSomeAnd, IsTrue, None, Some, replicate};
+ghost use Rattle.std.specs.Prelude.{◌≡◌, ◌≤◌, ◌^◌, ◌↔◌, [], IfOk, IsSomeAnd, IsTrue, None, Some, replicate};
 ghost use Rattle.std.specs.Option.{option_map};
 ghost use Rattle.core_at_work.specs.Booting.{IsApart};
 ghost use Rattle.core_at_work.specs.Insides.{IsInside, IsOutside, insides};
@@ -10,16 +10,17 @@ ghost use Rattle.kernel_model.specs.Application.{booted};
 ghost use Rattle.kernel_state.specs.Booting.{IsWithinLimits};
 ghost use Rattle.kernel_state.specs.Entering.{CanEnter};
 ghost use Rattle.kernel_state.specs.Leaving.{CanLeave};
-ghost use Rattle.kernel_state.specs.Meaning.{booted_of, events_of, kernel_of};
+ghost use Rattle.kernel_state.specs.Meaning.{booted_of, events_of, kernel_of, terms_of};
+ghost use Rattle.kernel_state.specs.Terms.{kept_terms};
 ghost use Rattle.native_tas.specs.Table.{entries};
 
-use crate::booting::core_of;
+use crate::booting::core_on;
 use crate::core_at_work::CoreAtWork;
 use crate::went_out::{WentOut, panic_of};
 use base::NoMemory;
 use kernel_entry::{Visitor, enter};
 use kernel_exit::leave;
-use kernel_state::{Core, EnterRefusal, Ran};
+use kernel_state::{Core, EnterRefusal, Ran, Terms};
 use native_tas::Natives;
 use ns_ram::Lane;
 use std::alloc::Global;
@@ -56,14 +57,33 @@ impl CoreAtWork {
         Ok(CoreAtWork { core, outgoing })
     }
 
-    /// A core of this boot, beside applications that are built in, where nothing has happened.
+    /// A core of this boot, beside applications that are built in, where nothing has happened. It keeps its events, and its entries
+    /// may read 2^28 bytes.
     pub fn booted(alloc: Global, boot: Boot, natives: &Natives) -> Result<CoreAtWork, NoMemory>
         requires limits { IsWithinLimits boot }
         requires apart { IsApart boot (entries natives.now) }
         ensures booted { IfOk result (λ at_work. booted_of at_work.core ≡ booted boot (entries natives.now)) }
+        ensures terms { IfOk result (λ at_work. terms_of at_work.core ≡ kept_terms) }
         ensures events { IfOk result (λ at_work. events_of at_work.core ≡ []) }
     {
-        let core = core_of(alloc, boot, natives)?;
+        CoreAtWork::booted_on(alloc, boot, natives, Terms::KEPT)
+    }
+
+    /// The core of [`CoreAtWork::booted`] on other terms.
+    pub fn booted_on(
+        alloc: Global,
+        boot: Boot,
+        natives: &Natives,
+        terms: Terms,
+    ) -> Result<CoreAtWork, NoMemory>
+        requires limits { IsWithinLimits boot }
+        requires apart { IsApart boot (entries natives.now) }
+        requires bounded { terms.most ≤ 2 ^ 63 }
+        ensures booted { IfOk result (λ at_work. booted_of at_work.core ≡ booted boot (entries natives.now)) }
+        ensures terms { IfOk result (λ at_work. terms_of at_work.core ≡ terms) }
+        ensures events { IfOk result (λ at_work. events_of at_work.core ≡ []) }
+    {
+        let core = core_on(alloc, boot, natives, terms)?;
         CoreAtWork::new(alloc, core)
     }
 

@@ -7,7 +7,7 @@ ghost use Rattle.journal_notes.specs.Meaning.{AreKept, Goes, HasTaken, IsExitNot
 ghost use Rattle.kernel_entry.specs.Visiting.{coming_of};
 ghost use Rattle.kernel_state.specs.Entering.{HasEntered};
 ghost use Rattle.kernel_state.specs.Leaving.{CanLeave};
-ghost use Rattle.kernel_state.specs.Meaning.{events_of};
+ghost use Rattle.kernel_state.specs.Meaning.{events_of, terms_of};
 ghost use Rattle.kernel_state.specs.Work.{IsRanOf};
 ghost use Rattle.kernel_state.specs.declared.kernel_core.Core.{Core as AnyCore};
 ghost use Rattle.kernel_state.specs.declared.work.Work.{Work as AnyWork};
@@ -82,6 +82,7 @@ pub trait EventNotes {
         requires { IsInside at_work.old.core cpu }
         ensures noted { IfOk result (λ _. IsExitNoted meaning at_work.old.core at_work.new.core self.old self.new cpu
             lane.old lane.new) }
+        ensures terms { terms_of at_work.new.core ≡ terms_of at_work.old.core }
         ensures subject { same_subject meaning self.old self.new };
 
     /// Takes what was listed of the event that was noted last.

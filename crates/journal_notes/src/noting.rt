@@ -94,6 +94,6 @@ fn go_out<N: EventNotes>(
         return Ok(false);
     }
     notes.go_out(alloc, &mut replay.at_work, cpu, &mut replay.lane)?;
-    let events = replay.at_work.core.parts.journal.as_slice();
+    let events = replay.at_work.core.journal().as_slice();
     Ok(last_has_left(events, regs))
 }

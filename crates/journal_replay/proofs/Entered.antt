@@ -1,5 +1,5 @@
 -- An entry that is done again.
-use Rattle.std.proofs.Common.{◌≡◌, ℕ, ◌≤◌, ◌^◌, List, [], ◌∷◌, ◌++◌, Option, Some, ap, sym, subst, ◌∙◌, arith}
+use Rattle.std.proofs.Common.{◌≡◌, ℕ, ◌+◌, ◌<◌, ◌≤◌, ◌^◌, List, [], ◌∷◌, ◌++◌, Option, Some, ap, sym, subst, ◌∙◌, arith}
 use Rattle.std.proofs.lemmas.List.Sums.{sum_by-append}
 use Rattle.std.proofs.lemmas.Option.{some_pair_parts}
 use Rattle.std.specs.Prelude.{IsSomeAnd, slice_get}
@@ -20,6 +20,7 @@ use Rattle.kernel_state.proofs.CoreEvents.{CameIn, came_in, few_steps, journals_
 use Rattle.kernel_state.specs.Entering.{CanEnter, HasEntered, IsTooMuch, bytes_read, visit_of}
 use Rattle.kernel_state.specs.Laws.{CoreEntry}
 use Rattle.kernel_state.specs.declared.kernel_core.Core.{Core}
+use Rattle.kernel_state.specs.declared.terms.Terms.{Terms}
 use Rattle.kernel_state.specs.declared.work.Work.{Work}
 use Rattle.ns_ram.proofs.ReaderLaws.{over_lane-reading}
 use Rattle.ns_ram.specs.Reader.{Reader, over_lane}
@@ -79,7 +80,7 @@ module _ (old : Replay) (visitor : Visitor) (reads : List Read) where
           let sum = sum_by-append copied_by (done_by old) (entry_of visitor reads ∷ []) in
           let known = bytes_known copied more full in
           let so_far = full.so_far in
-          let above = full.above in
+          let above : 2 ^ 28 < copied + more = subst (λ (terms : Terms). terms.most < copied + more) old.kept full.above in
           omega (arith, sum, known, so_far, above, few)
 
       module _ (new : Core) (work : Work) (has : HasEntered old.at_work.core new (coming_of visitor) lane work) where

@@ -10,6 +10,8 @@ ghost use Rattle.kernel_entry.specs.Visiting.{coming_of};
 ghost use Rattle.kernel_model.specs.Application.{booted};
 ghost use Rattle.kernel_state.specs.Booting.{IsWithinLimits};
 ghost use Rattle.kernel_state.specs.Entering.{CanEnter};
+ghost use Rattle.kernel_state.specs.Meaning.{terms_of};
+ghost use Rattle.kernel_state.specs.Terms.{kept_terms};
 ghost use Rattle.native_tas.specs.Table.{entries};
 ghost use Rattle.ns_ram.specs.Reads.{HoldsReads};
 
@@ -29,10 +31,11 @@ use ta_isa::Boot;
 /// A core on which the events of a journal are done again.
 #[derive(Drop)]
 pub struct Replay {
-    /// The core, whose journal has the events that were done.
+    /// The core, which keeps the events that were done.
     pub at_work: CoreAtWork,
     /// RAM, into which the bytes that an entry read are laid before it is done.
     pub lane: Lane,
+    pub ghost kept: { terms_of at_work.core ≡ kept_terms },
 }
 
 impl Replay {
@@ -111,7 +114,7 @@ impl Replay {
     {
         match self.at_work.enter(alloc, visitor, &self.lane) {
             Ok(()) => {
-                let events = self.at_work.core.parts.journal.as_slice();
+                let events = self.at_work.core.journal().as_slice();
                 Ok(last_has_read(events, reads))
             }
             Err(EnterRefusal::Full { .. }) => Ok(false),

@@ -7,9 +7,10 @@ use Rattle.std.specs.Prelude.{IsSomeAnd, slice_get, slice_set}
 use Rattle.std.specs.List.{AllByRecursion}
 use Rattle.std.specs.Option.{option_and_then, option_map}
 use Rattle.std.specs.Global.{Box}
-use Rattle.event_journal.specs.Journal.{Contents, copied_bytes}
+use Rattle.event_journal.specs.Journal.{copied_bytes}
 use Rattle.event_journal.specs.declared.event.Event.{Event}
 use Rattle.event_journal.specs.declared.event.Event.TheVariants.{Exit}
+use Rattle.event_log.specs.Log.{Contents}
 use Rattle.job_model.specs.Job.{Job}
 use Rattle.kernel_model.specs.Application.{AreNatives, IsBooted}
 use Rattle.kernel_model.specs.Exit.{Exited, exit, exit_of, goes_out, goes_out_from, kernel_left, progress_in}
@@ -22,7 +23,7 @@ use Rattle.kernel_model.specs.SoundRequests.{HasFittingRequest}
 use Rattle.kernel_model.proofs.SoundPlaces.{calls_placed}
 use Rattle.kernel_model.proofs.SoundRequests.{calls_fit}
 use Rattle.kernel_state.specs.Leaving.{HasLeft}
-use Rattle.kernel_state.specs.Meaning.{booted_of, events_of}
+use Rattle.kernel_state.specs.Meaning.{booted_of, events_of, terms_of}
 use Rattle.kernel_state.specs.Processors.{errand_of, processor_of}
 use Rattle.kernel_state.specs.Replay.{Replays}
 use Rattle.kernel_state.specs.Setup.{boot_of, booted_with, natives_of}
@@ -179,14 +180,14 @@ room_there parts ran came errand its = ∥∥₁_elim its (Prim.hlevel props) (r
 -- what is made of the parts as the processor goes
 pub record IsOut (mid new : Parts) (cpu : ℕ) (told : Regs) : Type 0 where
   pub processors : new.processors.items ≡ slice_set mid.processors.items cpu Outside
-  pub journal : new.journal ≡ record { events = mid.journal.events ++ Exit cpu told ∷ []; spare = mid.journal.spare - 1 }
+  pub journal : new.journal ≡ record mid.journal { events = mid.journal.events ++ Exit cpu told ∷ []; spare = mid.journal.spare - 1 }
   pub stays : new ≡ record mid { processors = new.processors; journal = new.journal }
 
 -- the core replays its events where its parts stand for the kernel behind the exit
 replays_behind : (old new : Parts) (kernel : model.Kernel) (cpu : ℕ) (told : Regs) (exited : Exited) → new.setup ≡ old.setup →
-    new.journal.events ≡ old.journal.events ++ Exit cpu told ∷ [] → kernel_after (booted_with old.setup) old.journal.events ≡ Some kernel →
-    exit kernel cpu ≡ Some exited → told.a ≡ exited.regs → Replays old → StandsFor new exited.kernel → Replays new
-replays_behind old new kernel cpu told exited setup events comes is same so stands = record {
+    new.journal.events ≡ old.journal.events ++ Exit cpu told ∷ [] → new.journal.keeps ≡ old.journal.keeps →
+    kernel_after (booted_with old.setup) old.journal.events ≡ Some kernel → exit kernel cpu ≡ Some exited → told.a ≡ exited.regs → Replays old → StandsFor new exited.kernel → Replays new
+replays_behind old new kernel cpu told exited setup events keeps comes is same so stands = record {
   kernel = exited.kernel;
   is_boot = subst (λ (s : Setup). IsBoot (boot_of s)) (sym setup) so.is_boot;
   are_natives = subst (λ (s : Setup). AreNatives (boot_of s) (natives_of s)) (sym setup) so.are_natives;
@@ -194,7 +195,10 @@ replays_behind old new kernel cpu told exited setup events comes is same so stan
       (subst (λ (all : List Event). kernel_after (booted_with old.setup) all ≡ Some exited.kernel) (sym events)
       (comes_behind (booted_with old.setup) old.journal.events kernel cpu told exited comes is same));
   stands = stands;
-  few = subst (λ (n : ℕ). n ≤ 2 ^ 28) (sym (ap copied_bytes events ∙ few_behind old.journal.events cpu told)) so.few;
+  keeps = keeps ∙ so.keeps ∙ ap (λ (s : Setup). s.terms.keeps) (sym setup);
+  few = subst (λ (s : Setup). copied_bytes new.journal.events ≤ s.terms.most) (sym setup)
+      (subst (λ (n : ℕ). n ≤ old.setup.terms.most) (sym (ap copied_bytes events ∙ few_behind old.journal.events cpu told)) so.few);
+  bounded = subst (λ (s : Setup). s.terms.most ≤ 2 ^ 63) (sym setup) so.bounded;
   agree = subst (AllByRecursion ReadsAgree) (sym events) (agree_behind old.journal.events cpu told so.agree);
 }
 
@@ -209,13 +213,14 @@ fixed_replays : (old new : Parts) (ran : Ran) (came told : Regs) (answer : Answe
 fixed_replays old new ran came told answer fact so encoded out = ∥∥₁_map₂ fact so.stands (λ (was : Replays old) (stands : StandsFor old so.kernel).
     let visit : model.Visit = record { cpu = ran.cpu; regs = came.a; steps = so.goes.steps } in
     replays_behind old new so.kernel ran.cpu told (goes_out so.kernel visit answer []) (ap (λ (p : Parts). p.setup) out.stays)
-    (ap (λ (j : Contents). j.events) out.journal) so.comes (fixed_exit old ran came answer so) encoded was
+    (ap (λ (j : Contents). j.events) out.journal) (ap (λ (j : Contents). j.keeps) out.journal) so.comes (fixed_exit old ran came answer so) encoded was
     (out_stands old new so.kernel visit (model.Fixed answer) told stands so.goes.inside out.processors out.journal out.stays))
 
 fixed_left : (old new : Core) (ran : Ran) (came told : Regs) (answer : Answer) (lane : List ℕ) → Goes old.parts ran came (Fixed answer) →
     told.a ≡ registers_of answer came.a → IsOut old.parts new.parts ran.cpu told → HasLeft old new ran lane lane told
 fixed_left old new ran came told answer lane so encoded out = record {
   boot = ap (λ (p : Parts). booted_with p.setup) out.stays;
+  terms = ap (λ (p : Parts). p.setup.terms) out.stays;
   events = ap (λ (j : Contents). j.events) out.journal;
   exited = goes_out so.kernel (record { cpu = ran.cpu; regs = came.a; steps = so.goes.steps }) answer [];
   is_exit = ap (λ (o : Option model.Kernel). option_and_then (λ kernel. exit kernel ran.cpu) o) so.comes ∙ fixed_exit old.parts ran came answer so;
@@ -246,6 +251,7 @@ slot_replays old mid new ran came told slot lane now answer fact so left stays e
     replays_behind old new so.its.kernel ran.cpu told (goes_out_from so.its.kernel visit slot progress)
     (ap (λ (p : Parts). p.setup) out.stays ∙ ap (λ (p : Parts). p.setup) stays)
     (ap (λ (j : Contents). j.events) out.journal ∙ ap (λ (p : Parts). p.journal.events ++ Exit ran.cpu told ∷ []) stays)
+    (ap (λ (j : Contents). j.keeps) out.journal ∙ ap (λ (p : Parts). p.journal.keeps) stays)
     so.its.comes so.exits.exits (encoded ∙ ap (λ (a : Answer). registers_of a came.a) gone.answered) was
     (out_stands mid new (kernel_left so.its.kernel slot progress (leaving_of slot progress.call)) visit (model.InSlot slot) told between so.its.goes.inside
     out.processors out.journal out.stays))
@@ -258,6 +264,7 @@ slot_left_so old new mid ran came told slot lane now answer so left stays encode
     let gone = gone_progress old.parts mid ran came slot so lane now answer left in
     record {
       boot = ap (λ (p : Parts). booted_with p.setup) out.stays ∙ ap (λ (p : Parts). booted_with p.setup) stays;
+      terms = ap (λ (p : Parts). p.setup.terms) out.stays ∙ ap (λ (p : Parts). p.setup.terms) stays;
       events = ap (λ (j : Contents). j.events) out.journal ∙ ap (λ (p : Parts). p.journal.events ++ Exit ran.cpu told ∷ []) stays;
       exited = goes_out_from so.its.kernel (record { cpu = ran.cpu; regs = came.a; steps = so.its.goes.steps }) slot so.exits.progress;
       is_exit = ap (λ (o : Option model.Kernel). option_and_then (λ kernel. exit kernel ran.cpu) o) so.its.comes ∙ so.exits.exits;
@@ -302,14 +309,15 @@ replays_after old mid new ran came told errand lane now answer fact its exited s
 
 -- its exit is one, whichever way it has left
 left_so : (old new : Core) (ran : Ran) (lane now : List ℕ) (told : Regs) → booted_of new ≡ booted_of old →
-    events_of new ≡ events_of old ++ Exit ran.cpu told ∷ [] → ∥ HasLeft old new ran lane now told ∥₁ → HasLeft old new ran lane now told
-left_so old new ran lane now told boot events left = by (exit_after (booted_of old) (events_of old) ran.cpu) refl
+    terms_of new ≡ terms_of old → events_of new ≡ events_of old ++ Exit ran.cpu told ∷ [] → ∥ HasLeft old new ran lane now told ∥₁ → HasLeft old new ran lane now told
+left_so old new ran lane now told boot terms events left = by (exit_after (booted_of old) (events_of old) ran.cpu) refl
   where
     by : (found : Option Exited) → exit_after (booted_of old) (events_of old) ran.cpu ≡ found → HasLeft old new ran lane now told
     by None e = absurd (∥∥₁_elim left (Prim.hlevel props) (λ (has : HasLeft old new ran lane now told).
         let no : None ≡ Some has.exited = sym e ∙ has.is_exit in none-some has.exited no))
     by (Some exited) e = record {
       boot = boot;
+      terms = terms;
       events = events;
       exited = exited;
       is_exit = e;
@@ -325,5 +333,6 @@ pub left_after : (old new : Core) (mid : Parts) (ran : Ran) (came told : Regs) (
     HasLeft old new ran lane now told
 left_after old new mid ran came told errand lane now answer its exited stays encoded out =
     left_so old new ran lane now told (ap (λ (p : Parts). booted_with p.setup) out.stays ∙ ap (λ (p : Parts). booted_with p.setup) stays)
+    (ap (λ (p : Parts). p.setup.terms) out.stays ∙ ap (λ (p : Parts). p.setup.terms) stays)
     (ap (λ (j : Contents). j.events) out.journal ∙ ap (λ (p : Parts). p.journal.events ++ Exit ran.cpu told ∷ []) stays)
     (∥∥₁_map its (λ (goes : Goes old.parts ran came errand). left_by old new mid ran came told errand lane now answer goes exited stays encoded out))

@@ -8,9 +8,10 @@ use Rattle.std.specs.List.{AllByRecursion}
 use Rattle.std.specs.Option.{option_and_then}
 use Rattle.std.specs.Global.{Box}
 use Rattle.event_journal.specs.Event.{copied_by}
-use Rattle.event_journal.specs.Journal.{Contents, copied_bytes}
+use Rattle.event_journal.specs.Journal.{copied_bytes}
 use Rattle.event_journal.specs.declared.event.Event.{Event}
 use Rattle.event_journal.specs.declared.event.Event.TheVariants.{Exit}
+use Rattle.event_log.specs.Log.{Contents}
 use Rattle.kernel_model.specs.Application.{Booted}
 use Rattle.kernel_model.specs.Exit.{Exited, exit, kernel_left, slot_left}
 use Rattle.kernel_model.specs.History.{after_events, exit_to, is_outside, kernel_after}
@@ -131,7 +132,7 @@ some_inside processors cpu regs steps spare errand there room = let fewer = one_
 pub out_stands : (old new : Parts) (kernel : model.Kernel) (visit : model.Visit) (errand : model.Errand) (told : Regs) → StandsFor old kernel →
     slice_get kernel.processors visit.cpu ≡ Some (model.Inside visit.regs visit.steps errand) →
     new.processors.items ≡ slice_set old.processors.items visit.cpu Outside →
-    new.journal ≡ record { events = old.journal.events ++ Exit visit.cpu told ∷ []; spare = old.journal.spare - 1 } →
+    new.journal ≡ record old.journal { events = old.journal.events ++ Exit visit.cpu told ∷ []; spare = old.journal.spare - 1 } →
     new ≡ record old { processors = new.processors; journal = new.journal } → StandsFor new (without_visitor kernel visit)
 out_stands old new kernel visit errand told stands inside processors journal same =
     let spare : new.journal.spare ≡ old.journal.spare - 1 = ap (λ (j : Contents). j.spare) journal in

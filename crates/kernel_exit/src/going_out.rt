@@ -97,9 +97,9 @@ fn exit_with(
 fn goes_out(parts: &mut Parts, cpu: u8, told: Regs)
     requires there { cpu < length parts.old.processors.items }
     requires room { 0 < parts.old.journal.spare }
-    requires few { copied_bytes parts.old.journal.events ≤ 2 ^ 28 }
+    requires few { copied_bytes parts.old.journal.events ≤ 2 ^ 63 }
     ensures processors { parts.new.processors.items ≡ slice_set parts.old.processors.items cpu Processor.Outside }
-    ensures journal { parts.new.journal ≡ record {
+    ensures journal { parts.new.journal ≡ record parts.old.journal {
       events = parts.old.journal.events ++ Exit cpu told ∷ [];
       spare = parts.old.journal.spare - 1;
     } }

@@ -1,5 +1,5 @@
 -- An entry under a turn.
-use Rattle.std.proofs.Common.{◌≡◌, ℕ, ◌<◌, ◌≤◌, true, false, List, Option, Some, Result, Ok, Err, refl, ap, sym, subst, ◌∙◌}
+use Rattle.std.proofs.Common.{◌≡◌, ℕ, ◌^◌, ◌<◌, ◌≤◌, true, false, List, Option, Some, Result, Ok, Err, refl, ap, sym, subst, ◌∙◌}
 use Rattle.std.specs.Prelude.{IsSomeAnd, MatchResult, slice_get}
 use Rattle.core_lock.specs.Counts.{made_by}
 use Rattle.core_lock.specs.Passes.{made, seen}
@@ -9,10 +9,11 @@ use Rattle.kernel_model.specs.Application.{Booted}
 use Rattle.kernel_model.specs.Kernel.{Kernel, Outside}
 use Rattle.kernel_model.specs.Turns.{cpu_of}
 use Rattle.kernel_state.specs.Entering.{CanEnter, Coming, Enters, HasWorkAfter, IsTooMuchAfter}
-use Rattle.kernel_state.specs.Meaning.{booted_of, events_of}
+use Rattle.kernel_state.specs.Meaning.{booted_of, events_of, terms_of}
 use Rattle.kernel_state.specs.declared.enter_refusal.EnterRefusal.{EnterRefusal}
 use Rattle.kernel_state.specs.declared.enter_refusal.EnterRefusal.TheVariants.{Full, Memory}
 use Rattle.kernel_state.specs.declared.kernel_core.Core.{Core}
+use Rattle.kernel_state.specs.declared.terms.Terms.{Terms}
 use Rattle.kernel_state.specs.declared.work.Work.{Work}
 use Rattle.kernel_state.proofs.CoreEvents.{some_kernel}
 use Rattle.normal_cpus.specs.Entering.{ComesIn}
@@ -45,11 +46,13 @@ entered_adds before after coming lane (Ok work) has =
 entered_adds before after coming lane (Err (Full copied more)) has = adds_none coming.cpu (events_of before) (events_of after) has.0.events
 entered_adds before after coming lane (Err Memory) has = adds_none coming.cpu (events_of before) (events_of after) has.events
 
-too_much_at : (boot other : Booted) (seen history : List Event) (coming : Coming) (lane : List ℕ) (copied more : ℕ) → other ≡ boot →
-    seen ≡ history → IsTooMuchAfter other history coming lane copied more → IsTooMuchAfter boot seen coming lane copied more
-too_much_at boot other seen history coming lane copied more same is too_much =
-    subst (λ (b : Booted). IsTooMuchAfter b seen coming lane copied more) same
-    (subst (λ (events : List Event). IsTooMuchAfter other events coming lane copied more) (sym is) too_much)
+too_much_at : (boot other : Booted) (most : ℕ) (seen history : List Event) (coming : Coming) (lane : List ℕ) (copied more : ℕ) →
+    other ≡ boot → most ≡ 2 ^ 28 → seen ≡ history → IsTooMuchAfter other most history coming lane copied more →
+    IsTooMuchAfter boot (2 ^ 28) seen coming lane copied more
+too_much_at boot other most seen history coming lane copied more same limit is too_much =
+    subst (λ (b : Booted). IsTooMuchAfter b (2 ^ 28) seen coming lane copied more) same
+    (subst (λ (n : ℕ). IsTooMuchAfter other n seen coming lane copied more) limit
+    (subst (λ (events : List Event). IsTooMuchAfter other most events coming lane copied more) (sym is) too_much))
 
 work_at : (boot other : Booted) (seen history : List Event) (work : Work) → other ≡ boot → seen ≡ history →
     HasWorkAfter other history work → HasWorkAfter boot seen work
@@ -64,17 +67,18 @@ comes_in boot old new before after coming lane (Ok work) found given has = recor
   reads = has.reads;
   from_lane = has.from_lane;
   before = events_of before;
-  makes = has_made boot old new before after (Entry coming.cpu coming.regs coming.steps has.reads) found given has.boot has.events;
+  makes = has_made boot old new before after (Entry coming.cpu coming.regs coming.steps has.reads) found given has.boot has.terms has.events;
   cpu = has.cpu;
   entry_at = has.entry_at;
   fits = work_at boot (booted_of after) (seen new) (events_of after) work (has.boot ∙ found.booted) given.now_seen has.fits;
 }
 comes_in boot old new before after coming lane (Err (Full copied more)) found given has = (
-  only_seen boot old new before after found given has.0.boot has.0.events,
-  too_much_at boot (booted_of before) (seen new) (events_of before) coming lane copied more found.booted (given.now_seen ∙ has.0.events) has.1,
+  only_seen boot old new before after found given has.0.boot has.0.terms has.0.events,
+  too_much_at boot (booted_of before) (terms_of before).most (seen new) (events_of before) coming lane copied more found.booted
+      (ap (λ (terms : Terms). terms.most) found.terms) (given.now_seen ∙ has.0.events) has.1,
 )
 comes_in boot old new before after coming lane (Err Memory) found given has =
-    only_seen boot old new before after found given has.boot has.events
+    only_seen boot old new before after found given has.boot has.terms has.events
 
 -- it is inside exactly where it came in
 pub inside_after : (boot : Booted) (old new : CpuPass) (coming : Coming) (lane : List ℕ) (result : Result Work EnterRefusal) →

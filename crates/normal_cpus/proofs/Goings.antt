@@ -63,7 +63,7 @@ pub goes_out : (boot : Booted) (old new : CpuPass) (before after : Core) (ran : 
     answer.entry_at ≡ ran.entry_at → answer.exit_at ≡ length (events_of before) → GoesOut boot old new ran lane now answer
 goes_out boot old new before after ran lane now answer found given can has entry_at exit_at = record {
   before = events_of before;
-  makes = has_made boot old new before after (Exit (number old) answer.regs) found given has.boot
+  makes = has_made boot old new before after (Exit (number old) answer.regs) found given has.boot has.terms
       (has.events ∙ ap (λ (n : ℕ). events_of before ++ Exit n answer.regs ∷ []) can.cpu);
   exit_at = exit_at;
   entry_at = entry_at;

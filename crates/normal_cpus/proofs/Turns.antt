@@ -13,8 +13,10 @@ use Rattle.kernel_model.specs.Application.{Booted}
 use Rattle.kernel_model.specs.History.{IsLegal}
 use Rattle.kernel_model.specs.Laws.{IsOfOther}
 use Rattle.kernel_model.specs.Turns.{cpu_of}
-use Rattle.kernel_state.specs.Meaning.{booted_of, events_of}
+use Rattle.kernel_state.specs.Meaning.{booted_of, events_of, terms_of}
+use Rattle.kernel_state.specs.Terms.{kept_terms}
 use Rattle.kernel_state.specs.declared.kernel_core.Core.{Core}
+use Rattle.kernel_state.specs.declared.terms.Terms.{Terms}
 use Rattle.kernel_state.proofs.CoreEvents.{core_is_legal}
 use Rattle.kernel_state.proofs.Told.{few_bytes}
 use Rattle.normal_cpus.specs.Seeing.{HasMade, HasOnlySeen}
@@ -47,6 +49,7 @@ adds_since cpu n before since after adds same mine = (
 -- the core at the turn is the one that was shared, with more events since. Of the pass's processor it has those that the pass made
 pub record IsFound (boot : Booted) (pass : CpuPass) (core : Core) : Type 0 where
   pub booted : booted_of core ≡ boot
+  pub terms : terms_of core ≡ kept_terms
   pub begins : IsPrefix (seen pass) (events_of core)
   pub own : made_by cpu_of (number pass) (events_of core) ≡ made pass
   pub own_seen : made pass ≡ made_by cpu_of (number pass) (seen pass)
@@ -73,26 +76,27 @@ legal_of boot history core booted is =
     (subst (λ (b : Booted). IsLegal b (events_of core)) booted (core_is_legal core))
 
 -- the entries of a core have read few bytes
-few_of : (history : List Event) (core : Core) → history ≡ events_of core → copied_bytes history ≤ 2 ^ 28
-few_of history core is =
-    subst (λ (events : List Event). copied_bytes events ≤ 2 ^ 28) (sym is) (few_bytes core.parts core.replay)
+few_of : (history : List Event) (core : Core) → terms_of core ≡ kept_terms → history ≡ events_of core → copied_bytes history ≤ 2 ^ 28
+few_of history core kept is =
+    subst (λ (events : List Event). copied_bytes events ≤ 2 ^ 28) (sym is)
+    (subst (λ (terms : Terms). copied_bytes (events_of core) ≤ terms.most) kept (few_bytes core.parts core.replay))
 
 pub only_seen : (boot : Booted) (old new : CpuPass) (before after : Core) → IsFound boot old before → IsGivenBack old new before after →
-    booted_of after ≡ booted_of before → events_of after ≡ events_of before → HasOnlySeen boot old new
-only_seen boot old new before after found given same none = record {
+    booted_of after ≡ booted_of before → terms_of after ≡ terms_of before → events_of after ≡ events_of before → HasOnlySeen boot old new
+only_seen boot old new before after found given same terms none = record {
   legal = legal_of boot (seen new) after (same ∙ found.booted) given.now_seen;
-  few = few_of (seen new) after given.now_seen;
+  few = few_of (seen new) after (terms ∙ found.terms) given.now_seen;
   begins = subst (λ (events : List Event). IsPrefix (seen old) events) (sym (given.now_seen ∙ none)) found.begins;
   own = given.now_own;
   made_none = given.now_made [] (none ∙ sym (append-nil (events_of before))) ∙ append-nil (made old);
 }
 
 pub has_made : (boot : Booted) (old new : CpuPass) (before after : Core) (event : Event) → IsFound boot old before →
-    IsGivenBack old new before after → booted_of after ≡ booted_of before → events_of after ≡ events_of before ++ event ∷ [] →
-    HasMade boot old new (events_of before) event
-has_made boot old new before after event found given same one = record {
+    IsGivenBack old new before after → booted_of after ≡ booted_of before → terms_of after ≡ terms_of before →
+    events_of after ≡ events_of before ++ event ∷ [] → HasMade boot old new (events_of before) event
+has_made boot old new before after event found given same terms one = record {
   legal = legal_of boot (seen new) after (same ∙ found.booted) given.now_seen;
-  few = few_of (seen new) after given.now_seen;
+  few = few_of (seen new) after (terms ∙ found.terms) given.now_seen;
   ends = given.now_seen ∙ one;
   begins = found.begins;
   own = given.now_own;

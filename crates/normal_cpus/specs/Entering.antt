@@ -1,5 +1,5 @@
 -- A processor comes in under a turn of its pass.
-use Rattle.std.specs.Prelude.{◌≡◌, ℕ, List, length, Result, Ok, Err}
+use Rattle.std.specs.Prelude.{◌≡◌, ℕ, ◌^◌, List, length, Result, Ok, Err}
 use Rattle.event_journal.specs.declared.event.Event.{Event}
 use Rattle.event_journal.specs.declared.event.Event.TheVariants.{Entry}
 use Rattle.core_lock.specs.Passes.{seen}
@@ -35,5 +35,5 @@ pub record HasCome (boot : Booted) (old new : CpuPass) (coming : Coming) (lane :
 abbrev pub ComesIn : Booted → CpuPass → CpuPass → Coming → List ℕ → Result Work EnterRefusal → Type 0
 ComesIn boot old new coming lane (Ok work) = HasCome boot old new coming lane work
 ComesIn boot old new coming lane (Err (Full copied more)) =
-    HasOnlySeen boot old new × IsTooMuchAfter boot (seen new) coming lane copied more
+    HasOnlySeen boot old new × IsTooMuchAfter boot (2 ^ 28) (seen new) coming lane copied more
 ComesIn boot old new coming lane (Err Memory) = HasOnlySeen boot old new

@@ -9,25 +9,26 @@ use Rattle.event_journal.specs.declared.event.Event.{Event}
 use Rattle.event_journal.specs.declared.event.Event.TheVariants.{Entry, Exit}
 use Rattle.kernel_model.specs.Application.{Booted}
 use Rattle.kernel_model.specs.Turns.{cpu_of}
-use Rattle.kernel_state.specs.Meaning.{booted_of}
+use Rattle.kernel_state.specs.Meaning.{core_basis}
+use Rattle.kernel_state.specs.Setup.{Basis}
 use Rattle.kernel_state.specs.declared.kernel_core.Core.{Core}
 use Rattle.normal_cpus.specs.declared.shared_core.SharedCore.{SharedCore}
 
 abbrev pub CpuPass : Type 0
-CpuPass = Pass Core Event Booted
+CpuPass = Pass Core Event Basis
 
 -- what the core was booted with
 abbrev pub boot_of : SharedCore → Booted
-boot_of shared = basis_of booted_of shared.lock
+boot_of shared = (basis_of core_basis shared.lock).boot
 
 -- ---- passes
 
 -- the pass is one of this core's. It has no turn and no ticket, and of its processor it has seen just the events that it made
 abbrev pub IsCpuOf : SharedCore → CpuPass → Type 0
-IsCpuOf shared pass = IsPassOf cpu_of booted_of shared.lock pass × IsIdle pass
+IsCpuOf shared pass = IsPassOf cpu_of core_basis shared.lock pass × IsIdle pass
 
 abbrev pub AreCpusOf : SharedCore → List CpuPass → Type 0
-AreCpusOf shared passes = AreIdle cpu_of booted_of shared.lock passes
+AreCpusOf shared passes = AreIdle cpu_of core_basis shared.lock passes
 
 -- they are the passes of all its processors, each once
 abbrev pub AreAllCpusOf : SharedCore → List CpuPass → Type 0

@@ -27,7 +27,7 @@ impl SharedCore {
         journals_stay_legal();
         let entry_at = ran.entry_at;
         let mut turn = self.lock.take_turn(rt, pass);
-        let exit_at = turn.value().journal().len();
+        let exit_at = turn.value().event_count();
         let regs = leave(turn.value_mut(), ran, lane);
         self.lock.give_back(pass, turn);
         CpuAnswer {

@@ -1,6 +1,7 @@
 ghost use Rattle.std.specs.Prelude.{◌≡◌, ◌≤◌};
 ghost use Rattle.core_lock.specs.Passes.{basis_of, count_of};
-ghost use Rattle.kernel_state.specs.Meaning.{booted_of};
+ghost use Rattle.kernel_state.specs.Meaning.{core_basis};
+ghost use Rattle.kernel_state.specs.Terms.{kept_terms};
 
 use core_lock::{CoreLock, Pass};
 use kernel_state::Core;
@@ -9,10 +10,11 @@ use kernel_state::Core;
 /// event that the pass made is an entry.
 pub type CpuPass = Pass<Core>;
 
-/// A core that its processors share. There are as many passes as processors.
+/// A core that its processors share, which keeps its events. There are as many passes as processors.
 #[derive(Drop)]
 pub struct SharedCore {
     pub(crate) lock: CoreLock<Core>,
-    pub ghost counted: { count_of lock ≡ (basis_of booted_of lock).cpus },
+    pub ghost counted: { count_of lock ≡ (basis_of core_basis lock).boot.cpus },
+    pub ghost kept: { (basis_of core_basis lock).terms ≡ kept_terms },
     pub ghost few: { count_of lock ≤ 8 },
 }

@@ -4,7 +4,7 @@ use Rattle.std.specs.Prelude.{IsSomeAnd, slice_get}
 use Rattle.event_journal.specs.Journal.{copied_bytes}
 use Rattle.kernel_state.specs.declared.parts.Parts.{Parts as AnyParts}
 use Rattle.kernel_state.specs.declared.processor.Processor.{Processor as AnyProcessor}
-use Rattle.kernel_state.proofs.Told.{few_bytes}
+use Rattle.kernel_state.proofs.Told.{few_events}
 use Rattle.kernel_exit.specs.GoingOut.{IsInside, IsInsideFor}
 use Rattle.kernel_exit.proofs.FoundInside.{is_inside}
 use Rattle.kernel_exit.proofs.Left.{Goes, can_truly, goes_truly, left_after, processor_there, replays_after, room_there}
@@ -42,7 +42,8 @@ goes_out-requires-clause-room c =
 
 pub goes_out-requires-clause-few : goal.goes_out-requires-clause-few
 goes_out-requires-clause-few c =
-    subst (λ (p : AnyParts). copied_bytes p.journal.events ≤ 2 ^ 28) (sym c.exit_with-answer.ensures.stays) (few_bytes c.args.core.now.parts c.args.core.now.replay)
+    subst (λ (p : AnyParts). copied_bytes p.journal.events ≤ 2 ^ 63) (sym c.exit_with-answer.ensures.stays)
+    (few_events c.args.core.now.parts c.args.core.now.replay)
 
 pub invariant_of-core : goal.invariant_of-core
 invariant_of-core c =

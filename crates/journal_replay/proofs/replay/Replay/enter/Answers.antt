@@ -12,7 +12,7 @@ returns-in-Ok-clause-does c =
     let reads = c.args.reads.now in
     let come = c.in-Ok.ensures in
     let has = come.entered in
-    let told = c.last_has_read.ensures (done_by old) visitor.cpu visitor.steps visitor.regs has.reads (c.as_slice-events.ensures ∙ has.events) in
+    let told = c.last_has_read.ensures (done_by old) visitor.cpu visitor.steps visitor.regs has.reads (c.as_slice-events.ensures ∙ c.journal.ensures.events ∙ has.events) in
     does_so old _ (entry_of visitor reads) c.last_has_read.result
     (λ same. entered old visitor reads _ old.lane come.work has (told.0 same))
     (λ can. told.1 (same_reads old visitor reads can old.lane (c.requires.laid (of_one_ram old visitor reads can)) c.enter.new.self.core

@@ -2,7 +2,8 @@
 use Rattle.std.proofs.Common.{ℕ, ◌++◌, ap, arith, rules, subst, ◌∙◌}
 use Rattle.core_lock.specs.Passes.{made, number, seen}
 use Rattle.kernel_model.specs.Application.{Booted}
-use Rattle.kernel_state.specs.Meaning.{booted_of, events_of}
+use Rattle.kernel_state.specs.Meaning.{core_basis, events_of}
+use Rattle.kernel_state.specs.Setup.{Basis}
 use Rattle.normal_cpus.specs.Entering.{ComesIn, coming}
 use Rattle.normal_cpus.specs.Sharing.{boot_of}
 use Rattle.normal_cpus.proofs.Comings.{can_enter, comes_in, entered_adds, inside_after}
@@ -13,7 +14,7 @@ pub enter-entered-requires : goal.enter-entered-requires
 enter-entered-requires g c =
     let taken = c.take_turn-turn.ensures in
     let core = c.value_mut.result.now in
-    let booted = ap booted_of c.value_mut.ensures.value ∙ taken.basis in
+    let booted = ap (λ (basis : Basis). basis.boot) (ap core_basis c.value_mut.ensures.value ∙ taken.basis) in
     can_enter core (coming c.number-cpu.result c.args.regs.now c.args.steps) (made c.args.pass.now)
     (let below = c.requires.own.0.below in
     let counted = c.args.self.now.counted in
@@ -38,7 +39,8 @@ returns-clause-comes g c =
     let core = c.value_mut.result.now in
     let came = coming c.number-cpu.result c.args.regs.now c.args.steps in
     let found : IsFound (boot_of c.args.self.now) c.args.pass.now core = record {
-      booted = ap booted_of c.value_mut.ensures.value ∙ taken.basis;
+      booted = ap (λ (basis : Basis). basis.boot) (ap core_basis c.value_mut.ensures.value ∙ taken.basis);
+      terms = ap (λ (basis : Basis). basis.terms) (ap core_basis c.value_mut.ensures.value ∙ taken.basis) ∙ c.args.self.now.kept;
       begins = search rules;
       own = search rules;
       own_seen = c.requires.own.0.own_entries;

@@ -1,6 +1,7 @@
 -- The run is that of the pass's open entry still, since only others have come and gone since.
 use Rattle.std.proofs.Common.{◌++◌, ap, refl, rules, ◌∙◌}
-use Rattle.kernel_state.specs.Meaning.{booted_of}
+use Rattle.kernel_state.specs.Meaning.{core_basis}
+use Rattle.kernel_state.specs.Setup.{Basis}
 use Rattle.normal_cpus.specs.Sharing.{boot_of}
 use Rattle.normal_cpus.proofs.Goings.{can_leave, goes_out, outside_after}
 use Rattle.normal_cpus.proofs.Turns.{IsFound, IsGivenBack}
@@ -11,7 +12,8 @@ leave-regs-requires g c =
     let taken = c.take_turn-turn.ensures in
     let core = c.value_mut.result.now in
     let found : IsFound (boot_of c.args.self.now) c.args.pass.now core = record {
-      booted = ap booted_of c.value_mut.ensures.value ∙ taken.basis;
+      booted = ap (λ (basis : Basis). basis.boot) (ap core_basis c.value_mut.ensures.value ∙ taken.basis);
+      terms = ap (λ (basis : Basis). basis.terms) (ap core_basis c.value_mut.ensures.value ∙ taken.basis) ∙ c.args.self.now.kept;
       begins = search rules;
       own = search rules;
       own_seen = c.requires.own.0.own_entries;
@@ -23,7 +25,8 @@ returns-clause-goes g c =
     let taken = c.take_turn-turn.ensures in
     let core = c.value_mut.result.now in
     let found : IsFound (boot_of c.args.self.now) c.args.pass.now core = record {
-      booted = ap booted_of c.value_mut.ensures.value ∙ taken.basis;
+      booted = ap (λ (basis : Basis). basis.boot) (ap core_basis c.value_mut.ensures.value ∙ taken.basis);
+      terms = ap (λ (basis : Basis). basis.terms) (ap core_basis c.value_mut.ensures.value ∙ taken.basis) ∙ c.args.self.now.kept;
       begins = search rules;
       own = search rules;
       own_seen = c.requires.own.0.own_entries;
