@@ -5,6 +5,7 @@ ghost use Rattle.core_at_work.specs.Insides.{IsInside};
 ghost use Rattle.instance_groups.specs.Noted.{has_succeeded, opened_by, opened_so};
 ghost use Rattle.instance_groups.specs.Meaning.{IsExitNoted};
 ghost use Rattle.isolation.specs.Replaying.{errand_at};
+ghost use Rattle.kernel_state.specs.Meaning.{terms_of};
 ghost use Rattle.kernel_state.specs.declared.processor.Errand.TheVariants.{InSlot};
 
 use crate::arriving::is_open;
@@ -66,6 +67,7 @@ pub(crate) fn leave_slot(
     requires inside { IsInside at_work.old.core cpu }
     requires errand { errand_at (slice_get at_work.old.core.parts.processors.items cpu) ≡ Some (InSlot slot) }
     ensures noted { IfOk result (λ _. IsExitNoted at_work.old.core at_work.new.core notes.old notes.new cpu lane.old lane.new) }
+    ensures terms { terms_of at_work.new.core ≡ terms_of at_work.old.core }
     ensures app { notes.new.app ≡ notes.old.app }
 {
     let Some(number) = notes.number_in(slot) else {

@@ -4,6 +4,7 @@ ghost use Rattle.std.specs.Option.{option_copied};
 ghost use Rattle.core_at_work.specs.Insides.{IsInside};
 ghost use Rattle.isolation.specs.Meaning.{IsExitNoted};
 ghost use Rattle.isolation.specs.Replaying.{errand_at, left_at};
+ghost use Rattle.kernel_state.specs.Meaning.{terms_of};
 ghost use Rattle.kernel_state.specs.declared.processor.Errand.TheVariants.{InSlot};
 
 use crate::leaving::told_at_end;
@@ -39,6 +40,7 @@ pub(crate) fn leave_slot(
     requires inside { IsInside at_work.old.core cpu }
     requires errand { errand_at (slice_get at_work.old.core.parts.processors.items cpu) ≡ Some (InSlot slot) }
     ensures noted { IfOk result (λ _. IsExitNoted at_work.old.core at_work.new.core notes.old notes.new cpu lane.old lane.new) }
+    ensures terms { terms_of at_work.new.core ≡ terms_of at_work.old.core }
     ensures session { notes.new.session ≡ notes.old.session }
 {
     let Some(number) = notes.number_in(slot) else {
