@@ -1,9 +1,10 @@
 -- What an entry and an exit make of the kernel of a core.
-use Rattle.std.proofs.Common.{◌≡◌, ℕ, ◌≤◌, List, [], ◌∷◌, ◌++◌, Option, Some, None, Bool, true, false, refl, ap, sym, subst, ◌∙◌, arith}
+use Rattle.std.proofs.Common.{◌≡◌, ℕ, ◌≤◌, ◌^◌, List, [], ◌∷◌, ◌++◌, Option, Some, None, Bool, true, false, refl, ap, sym, subst, ◌∙◌, arith}
 use Rattle.std.specs.Prelude.{IsSomeAnd, slice_get, nat_le, ◌&&◌, if◌then◌else◌, bytes_eq}
 use Rattle.std.specs.Option.{option_and_then}
 use Rattle.std.proofs.lemmas.Bool.Decides.{nat_tests}
 use Rattle.std.proofs.lemmas.Option.{option_and_then_some}
+use Rattle.event_journal.specs.Journal.{copied_bytes}
 use Rattle.event_journal.specs.declared.event.Event.{Event}
 use Rattle.event_journal.specs.declared.event.Event.TheVariants as event
 use Rattle.ns_ram.specs.declared.read.Read.{Read}
@@ -20,14 +21,20 @@ use Rattle.kernel_model.proofs.Past.{after_events-append}
 use Rattle.kernel_model.proofs.Suspended.{only_one}
 use Rattle.kernel_state.specs.Entering.{CanEnter, visit_of}
 use Rattle.kernel_state.specs.Laws.{CoreEntry, CoreExit, JournalsStayLegal}
-use Rattle.kernel_state.specs.Meaning.{booted_of, events_of, kernel_of}
+use Rattle.kernel_state.specs.Meaning.{booted_of, events_of, kernel_of, terms_of}
+use Rattle.kernel_state.specs.Terms.{kept_terms}
 use Rattle.kernel_state.specs.declared.kernel_core.Core.{Core}
+use Rattle.kernel_state.specs.declared.terms.Terms.{Terms}
 use Rattle.kernel_state.proofs.Told.{few_bytes, is_legal, reads_agree, reads_ram}
 
 -- ---- the kernel of a core
 
 pub core_is_legal : (core : Core) → IsLegal (booted_of core) (events_of core)
 core_is_legal core = is_legal core.parts core.replay
+
+-- the entries of one that keeps its events have read few bytes
+pub kept_few : (core : Core) → terms_of core ≡ kept_terms → copied_bytes (events_of core) ≤ 2 ^ 28
+kept_few core kept = subst (λ (terms : Terms). copied_bytes (events_of core) ≤ terms.most) kept (few_bytes core.parts core.replay)
 
 -- there is one
 pub some_kernel : (core : Core) → (kernel : Kernel) × (kernel_of core ≡ Some kernel)

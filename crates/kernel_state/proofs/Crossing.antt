@@ -1,7 +1,7 @@
 -- A core may go to another thread: level by level, since one search over all that it holds is too long.
 use denote.Param.Send.{IsSend, recorded_send, sendable, struct_send}
 use denote.Struct.Declared as Declared
-use Rattle.event_journal.proofs.journal.Journal.TheSendSync as journal
+use Rattle.event_log.proofs.log.Log.TheSendSync as log
 use Rattle.frame_pool.proofs.rooms.Link.TheLaws.TheKnot as knot
 use Rattle.frame_pool.specs.contracts.pages.Pages as Pages
 use Rattle.frame_pool.specs.contracts.pool.Pool as Pool
@@ -59,7 +59,7 @@ parts_send =
               (
                 search (blanks_send) depth 5,
                 (
-                  search (journal.the_send) depth 5,
+                  search (log.the_send) depth 5,
                   tt,
                 ),
               ),

@@ -16,9 +16,7 @@ use Rattle.kernel_model.specs.Turns.{cpu_of}
 use Rattle.kernel_state.specs.Meaning.{booted_of, events_of, terms_of}
 use Rattle.kernel_state.specs.Terms.{kept_terms}
 use Rattle.kernel_state.specs.declared.kernel_core.Core.{Core}
-use Rattle.kernel_state.specs.declared.terms.Terms.{Terms}
-use Rattle.kernel_state.proofs.CoreEvents.{core_is_legal}
-use Rattle.kernel_state.proofs.Told.{few_bytes}
+use Rattle.kernel_state.proofs.CoreEvents.{core_is_legal, kept_few}
 use Rattle.normal_cpus.specs.Seeing.{HasMade, HasOnlySeen}
 use Rattle.normal_cpus.specs.Sharing.{CpuPass}
 use Rattle.normal_cpus.proofs.OwnEvents.{others_behind}
@@ -78,8 +76,7 @@ legal_of boot history core booted is =
 -- the entries of a core have read few bytes
 few_of : (history : List Event) (core : Core) → terms_of core ≡ kept_terms → history ≡ events_of core → copied_bytes history ≤ 2 ^ 28
 few_of history core kept is =
-    subst (λ (events : List Event). copied_bytes events ≤ 2 ^ 28) (sym is)
-    (subst (λ (terms : Terms). copied_bytes (events_of core) ≤ terms.most) kept (few_bytes core.parts core.replay))
+    subst (λ (events : List Event). copied_bytes events ≤ 2 ^ 28) (sym is) (kept_few core kept)
 
 pub only_seen : (boot : Booted) (old new : CpuPass) (before after : Core) → IsFound boot old before → IsGivenBack old new before after →
     booted_of after ≡ booted_of before → terms_of after ≡ terms_of before → events_of after ≡ events_of before → HasOnlySeen boot old new
