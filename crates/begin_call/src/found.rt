@@ -51,7 +51,7 @@ fn held_of(uuid: Uuid, program: Option<Application>, memory: Option<Pages>) -> H
 }
 
 /// Starts the call on what it finds, with the open objects that it has.
-pub(crate) fn starts(cont: &mut Cont<Pages>, found: InstanceFound)
+pub(crate) fn start(cont: &mut Cont<Pages>, found: InstanceFound)
     requires fresh { CanBegin cont.old }
     requires found { CanStart found.program found.memory found.uuid }
     ensures runs { IsInPhase cont.new (Runs (job_on found cont.old)) }

@@ -16,7 +16,7 @@ use kernel_state::{Application, Tables};
 use tee_storage::Handles;
 
 /// Lets the call of a slot hold a kept instance: gives its memory, and moves its open objects into those of the call.
-pub(crate) fn holds(
+pub(crate) fn hold(
     tables: &mut Tables,
     number: u32,
     slot: u8,
@@ -55,7 +55,7 @@ fn fresh_pages(pool: &mut Pool, app: &Application) -> Option<Pages>
 
 /// Makes an instance of the application that the call of a slot holds: gives its memory, and moves its open objects, of
 /// which there are none, into those of the call.
-pub(crate) fn makes(
+pub(crate) fn make(
     tables: &mut Tables,
     number: u32,
     app: &Application,

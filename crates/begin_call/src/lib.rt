@@ -12,6 +12,6 @@ mod points;
 mod session_calls;
 
 pub use asking::{SharedInstance, awaited_number, has_pages_for, shared_instance};
-pub use opens::{OpenCall, opens_kept, opens_made, opens_new};
+pub use opens::{OpenCall, open_kept, open_made, open_new};
 pub use points::{Points, closing_points, destroy_after, destroy_of};
-pub use session_calls::{SessionCall, begins_on};
+pub use session_calls::{SessionCall, begin_on};

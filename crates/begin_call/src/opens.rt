@@ -12,8 +12,8 @@ ghost use Rattle.kernel_state.specs.declared.setup.Setup.{Setup as AnySetup};
 ghost use Rattle.begin_call.specs.Begins.{CanBegin, HasBegun, IsReadyFor, IsValidApp, brought, new_number, number_behind, who_begins};
 
 use crate::asking::awaited_number;
-use crate::found::{InstanceFound, starts};
-use crate::holding::{holds, makes};
+use crate::found::{InstanceFound, start};
+use crate::holding::{hold, make};
 use crate::points::{Points, destroy_after};
 use frame_pool::Pages;
 use kernel_state::{Application, Tables};
@@ -29,7 +29,7 @@ pub struct OpenCall {
 }
 
 /// Begins on a kept instance.
-pub fn opens_kept(tables: &mut Tables, cont: &mut Cont<Pages>, call: OpenCall, number: u32)
+pub fn open_kept(tables: &mut Tables, cont: &mut Cont<Pages>, call: OpenCall, number: u32)
     requires valid { IsValidApp (application_of call.app) }
     requires fresh { CanBegin cont.old }
     requires rising { IsRising (tables_of tables.old).instances }
@@ -41,7 +41,7 @@ pub fn opens_kept(tables: &mut Tables, cont: &mut Cont<Pages>, call: OpenCall, n
 {
     let OpenCall { slot, app, login } = call;
     let unmakes = destroy_after(&app, &tables.sessions, number);
-    let memory = holds(tables, number, slot, &mut cont.objects);
+    let memory = hold(tables, number, slot, &mut cont.objects);
     cont.login = login;
     cont.context = 0;
     cont.instance = number;
@@ -51,11 +51,11 @@ pub fn opens_kept(tables: &mut Tables, cont: &mut Cont<Pages>, call: OpenCall, n
         memory,
         points: Points::opening(false, unmakes),
     };
-    starts(cont, found);
+    start(cont, found);
 }
 
 /// Begins on a new instance of this number, which is created first. Its pages come from the pool.
-pub fn opens_new(tables: &mut Tables, cont: &mut Cont<Pages>, call: OpenCall, number: u32)
+pub fn open_new(tables: &mut Tables, cont: &mut Cont<Pages>, call: OpenCall, number: u32)
     requires valid { IsValidApp (application_of call.app) }
     requires fresh { CanBegin cont.old }
     requires pages { pages_in (application_of call.app) ≤ tables.old.pool.free }
@@ -68,7 +68,7 @@ pub fn opens_new(tables: &mut Tables, cont: &mut Cont<Pages>, call: OpenCall, nu
 {
     let OpenCall { slot, app, login } = call;
     let unmakes = destroy_after(&app, &tables.sessions, number);
-    let memory = makes(tables, number, &app, slot, &mut cont.objects);
+    let memory = make(tables, number, &app, slot, &mut cont.objects);
     cont.login = login;
     cont.context = 0;
     cont.instance = number;
@@ -78,11 +78,11 @@ pub fn opens_new(tables: &mut Tables, cont: &mut Cont<Pages>, call: OpenCall, nu
         memory,
         points: Points::opening(true, unmakes),
     };
-    starts(cont, found);
+    start(cont, found);
 }
 
 /// Begins on a new instance: it has the number for which calls still wait, so that they find it, and else the next one.
-pub fn opens_made(tables: &mut Tables, cont: &mut Cont<Pages>, call: OpenCall)
+pub fn open_made(tables: &mut Tables, cont: &mut Cont<Pages>, call: OpenCall)
     requires valid { IsValidApp (application_of call.app) }
     requires fresh { CanBegin cont.old }
     requires pages { pages_in (application_of call.app) ≤ tables.old.pool.free }
@@ -95,7 +95,7 @@ pub fn opens_made(tables: &mut Tables, cont: &mut Cont<Pages>, call: OpenCall)
         → HasFreePages setup tables.old → HasFreePages setup tables.new }
 {
     let number = number_for(tables, &call.app);
-    opens_new(tables, cont, call, number);
+    open_new(tables, cont, call, number);
 }
 
 /// The number of a new instance of the application: the one for which calls wait, and else the next, which is given.

@@ -13,8 +13,8 @@ ghost use Rattle.rpc_cont.specs.Conts.{kept_params};
 ghost use Rattle.begin_call.specs.Begins.{CanBegin, HasBegun, IsReady, IsValidApp, who_begins};
 ghost use Rattle.begin_call.specs.Points.{points_of};
 
-use crate::found::{InstanceFound, starts};
-use crate::holding::holds;
+use crate::found::{InstanceFound, start};
+use crate::holding::hold;
 use crate::points::Points;
 use frame_pool::Pages;
 use kernel_state::{Application, Tables};
@@ -39,7 +39,7 @@ fn program_on(instance: &Instance, app: Application) -> Option<Application>
 }
 
 /// Begins on the session's instance.
-pub fn begins_on(tables: &mut Tables, cont: &mut Cont<Pages>, call: SessionCall)
+pub fn begin_on(tables: &mut Tables, cont: &mut Cont<Pages>, call: SessionCall)
     requires valid { IsValidApp (application_of call.app) }
     requires fresh { CanBegin cont.old }
     requires rising { IsRising (tables_of tables.old).instances }
@@ -62,7 +62,7 @@ pub fn begins_on(tables: &mut Tables, cont: &mut Cont<Pages>, call: SessionCall)
     };
     let uuid = instance.uuid;
     let program = program_on(instance, app);
-    let memory = holds(tables, number, slot, &mut cont.objects);
+    let memory = hold(tables, number, slot, &mut cont.objects);
     cont.login = session.login;
     cont.context = session.context;
     cont.instance = number;
@@ -72,5 +72,5 @@ pub fn begins_on(tables: &mut Tables, cont: &mut Cont<Pages>, call: SessionCall)
         memory,
         points,
     };
-    starts(cont, found);
+    start(cont, found);
 }

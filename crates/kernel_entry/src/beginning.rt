@@ -13,10 +13,10 @@ ghost use Rattle.thread_slots.specs.Slots.{lowest_free};
 ghost use Rattle.kernel_entry.specs.Applying.{CanTake, is_cancel};
 ghost use Rattle.kernel_entry.specs.Visiting.{HasComeIn, StandsAfter};
 
-use crate::carrying::carried;
+use crate::carrying::carried_call;
 use crate::plans::apply;
-use crate::taking::takes_slot;
-use crate::visitor::{Visitor, lets_in};
+use crate::taking::take_slot;
+use crate::visitor::{Visitor, let_in};
 use kernel_state::{Cancellation, Carried, Errand, Parts};
 use new_calls::{Entered, Plan};
 use ns_ram::Reads;
@@ -31,7 +31,7 @@ fn is_cancel(plan: &Plan) -> bool
 
 /// Lets a processor in for a new call, which takes the lowest free slot and fills a box. The parts stand for the
 /// kernel after it, and the processor carries the call that its slot works on.
-pub fn enters_new(
+pub fn enter_new(
     alloc: Global,
     parts: &mut Parts,
     visitor: Visitor,
@@ -63,7 +63,7 @@ pub fn enters_new(
         cancel_id: entered.head.cancel_id,
         marked: false,
     };
-    takes_slot(parts, visitor.cpu, slot, beside, cancels);
-    lets_in(parts, visitor, Errand::InSlot(slot), reads);
-    carried(cont)
+    take_slot(parts, visitor.cpu, slot, beside, cancels);
+    let_in(parts, visitor, Errand::InSlot(slot), reads);
+    carried_call(cont)
 }

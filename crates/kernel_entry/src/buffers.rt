@@ -7,7 +7,7 @@ ghost use Rattle.shm_registry.specs.Registered.{lowest_slot};
 use shm_registry::{PageBuffer, Registry};
 
 /// Keeps the buffer under its cookie.
-pub(crate) fn keeps_buffer(registry: &mut Registry, cookie: u64, buffer: PageBuffer)
+pub(crate) fn keep_buffer(registry: &mut Registry, cookie: u64, buffer: PageBuffer)
     requires fresh { get registry.old.buffers cookie ≡ None }
     requires room { length registry.old.buffers < 64 }
     requires buffer { IsBuffer buffer }
@@ -19,7 +19,7 @@ pub(crate) fn keeps_buffer(registry: &mut Registry, cookie: u64, buffer: PageBuf
 }
 
 /// Keeps the buffer of the cookie no more.
-pub(crate) fn drops_buffer(registry: &mut Registry, cookie: u64)
+pub(crate) fn drop_buffer(registry: &mut Registry, cookie: u64)
     requires kept { IsSome (get registry.old.buffers cookie) }
     requires free { lowest_slot registry.old.pins cookie ≡ None }
     ensures { registry.new ≡ record registry.old { buffers = remove registry.old.buffers cookie } }

@@ -11,7 +11,7 @@ use ns_ram::Reads;
 use rpc_cont::{Cont, Phase};
 
 /// The call, by whether it runs.
-pub(crate) fn carried(cont: Box<Cont<Pages>>) -> Carried
+pub(crate) fn carried_call(cont: Box<Cont<Pages>>) -> Carried
     ensures { (call : PendingCall) → IsCall cont.value call → IsCarriedAs result call call.phase }
 {
     match cont.phase {
@@ -21,7 +21,7 @@ pub(crate) fn carried(cont: Box<Cont<Pages>>) -> Carried
 }
 
 /// How many bytes were read. None only where 64 bits don't have the number.
-pub fn bytes_in(reads: &Reads) -> Option<u64>
+pub fn total_bytes(reads: &Reads) -> Option<u64>
     ensures { IfSome result (λ total. total ≡ total_bytes reads.now) }
 {
     let mut total: u64 = 0;

@@ -9,11 +9,11 @@ ghost use Rattle.kernel_entry.specs.Deciding.{decision_as};
 ghost use Rattle.kernel_entry.specs.Entering.{CanFollow, IsCarriedBy};
 ghost use Rattle.kernel_entry.specs.Visiting.{HasComeIn, StandsAfter, coming_of};
 
-use crate::beginning::enters_new;
+use crate::beginning::enter_new;
 use crate::deciding::EntryDecision;
-use crate::fixed::enters_fixed;
+use crate::fixed::enter_fixed;
 use crate::preparing::{Prepared, prepare};
-use crate::resuming::enters_resumed;
+use crate::resuming::enter_resumed;
 use crate::visitor::Visitor;
 use event_journal::Journal;
 use kernel_state::{Carried, Core, EnterRefusal, Parts, Work};
@@ -31,7 +31,7 @@ fn next_place(journal: &Journal) -> u64
 /// Lets a processor in for what was decided. The parts stand for the kernel after that, and the processor carries the
 /// call of its slot, if it has one.
 #[inline(always)]
-fn comes_in(
+fn come_in(
     alloc: Global,
     parts: &mut Parts,
     visitor: Visitor,
@@ -50,13 +50,13 @@ fn comes_in(
 {
     match decision {
         EntryDecision::Answers(answer) => {
-            enters_fixed(parts, visitor, answer, reads);
+            enter_fixed(parts, visitor, answer, reads);
             Carried::Nothing
         }
         EntryDecision::Begins(entered, plan) => {
-            enters_new(alloc, parts, visitor, entered, plan, reads)
+            enter_new(alloc, parts, visitor, entered, plan, reads)
         }
-        EntryDecision::GoesOn(decided) => enters_resumed(parts, visitor, decided, reads),
+        EntryDecision::GoesOn(decided) => enter_resumed(parts, visitor, decided, reads),
     }
 }
 
@@ -74,7 +74,7 @@ pub fn enter(
     let prepared = prepare(alloc, &mut core.parts, &visitor.regs, lane)?;
     let Prepared { decision, reads } = prepared;
     let entry_at = next_place(&core.parts.journal);
-    let call = comes_in(alloc, &mut core.parts, visitor, decision, reads);
+    let call = come_in(alloc, &mut core.parts, visitor, decision, reads);
     let Visitor { cpu, steps, .. } = visitor;
     Ok(Work {
         cpu,

@@ -10,7 +10,7 @@ use ta_params::CallResult;
 use ta_params::codes::TEE_SUCCESS;
 
 /// The call is the one of this entry, with this result so far.
-fn fills(cont: &mut Cont<Pages>, entered: CallEntry, outcome: CallResult, phase: Phase)
+fn fill(cont: &mut Cont<Pages>, entered: CallEntry, outcome: CallResult, phase: Phase)
     requires { IsBlank cont.old }
     ensures fresh { IsFresh cont.new }
     ensures entered { IsEntered entered cont.new }
@@ -46,18 +46,18 @@ fn fills(cont: &mut Cont<Pages>, entered: CallEntry, outcome: CallResult, phase:
 }
 
 /// The call is the one of this entry, and waits for its instance.
-pub(crate) fn waits_as(cont: &mut Cont<Pages>, entered: CallEntry)
+pub(crate) fn fill_waiting(cont: &mut Cont<Pages>, entered: CallEntry)
     requires { IsBlank cont.old }
     ensures new { IsNew cont.new }
     ensures entered { IsEntered entered cont.new }
     ensures params { cont.new.params ≡ entered.params }
     ensures key { cont.new.key ≡ cont.old.key }
 {
-    fills(cont, entered, CallResult::of_tee(TEE_SUCCESS), Phase::Waits);
+    fill(cont, entered, CallResult::of_tee(TEE_SUCCESS), Phase::Waits);
 }
 
 /// The call is the one of this entry, and was settled there with this result.
-pub(crate) fn ends_as(cont: &mut Cont<Pages>, entered: CallEntry, outcome: CallResult)
+pub(crate) fn fill_ended(cont: &mut Cont<Pages>, entered: CallEntry, outcome: CallResult)
     requires { IsBlank cont.old }
     ensures fresh { IsFresh cont.new }
     ensures entered { IsEntered entered cont.new }
@@ -66,6 +66,6 @@ pub(crate) fn ends_as(cont: &mut Cont<Pages>, entered: CallEntry, outcome: CallR
     ensures phase { cont.new.phase ≡ Phase.Ends }
     ensures app { cont.new.app ≡ None }
 {
-    fills(cont, entered, outcome, Phase::Ends);
+    fill(cont, entered, outcome, Phase::Ends);
     cont.app = None;
 }

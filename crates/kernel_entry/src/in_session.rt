@@ -17,11 +17,11 @@ ghost use Rattle.rpc_cont.specs.Conts.{kept_params};
 ghost use Rattle.kernel_state.specs.Blanks.{IsBlank};
 ghost use Rattle.kernel_entry.specs.Applying.{HasCome, IsNew, IsTaken, KeepsSession, MayCome, MayWork, session_comes};
 
-use crate::filling::waits_as;
-use crate::pinning::pins;
-use crate::waiting::joins;
+use crate::filling::fill_waiting;
+use crate::pinning::pin_cookies;
+use crate::waiting::join_line;
 use arrayvec::ArrayVec;
-use begin_call::{Points, SessionCall, begins_on, closing_points};
+use begin_call::{Points, SessionCall, begin_on, closing_points};
 use frame_pool::Pages;
 use job_model::{CallKind, EntryPoint};
 use kernel_state::{Application, Tables};
@@ -32,7 +32,7 @@ use session_table::Session;
 use std::alloc::Global;
 
 /// Begins on the session's instance, or waits where another call holds it.
-fn comes_in(tables: &mut Tables, cont: &mut Cont<Pages>, call: SessionCall)
+fn work_or_wait(tables: &mut Tables, cont: &mut Cont<Pages>, call: SessionCall)
     requires new { IsNew cont.old }
     requires comes { MayCome tables.old call.slot (application_of call.app) }
     requires works { MayWork tables.old (application_of call.app) call.session }
@@ -46,14 +46,14 @@ fn comes_in(tables: &mut Tables, cont: &mut Cont<Pages>, call: SessionCall)
 {
     let number = call.session.instance;
     if tables.is_held(number) {
-        joins(tables, cont, call.app, number, call.slot);
+        join_line(tables, cont, call.app, number, call.slot);
     } else {
-        begins_on(tables, cont, call);
+        begin_on(tables, cont, call);
     }
 }
 
 /// An invoke in this session.
-pub(crate) fn invokes(
+pub(crate) fn apply_invoke(
     tables: &mut Tables,
     entered: &Entered,
     session: Session,
@@ -90,19 +90,19 @@ pub(crate) fn invokes(
         session: entered.head.session,
         instance: session.instance,
     };
-    waits_as(cont, entry);
+    fill_waiting(cont, entry);
     let call = SessionCall {
         slot: entered.slot,
         session,
         app,
         points: Points::only(EntryPoint::Invoke { func }),
     };
-    comes_in(tables, cont, call);
-    pins(&mut tables.registry, cookies.as_slice(), entered.slot);
+    work_or_wait(tables, cont, call);
+    pin_cookies(&mut tables.registry, cookies.as_slice(), entered.slot);
 }
 
 /// A close of this session.
-pub(crate) fn closes(
+pub(crate) fn apply_close(
     alloc: Global,
     tables: &mut Tables,
     entered: &Entered,
@@ -134,7 +134,7 @@ pub(crate) fn closes(
         session: number,
         instance: session.instance,
     };
-    waits_as(cont, entry);
+    fill_waiting(cont, entry);
     let points = closing_points(tables, &app, number, session);
     let call = SessionCall {
         slot: entered.slot,
@@ -142,5 +142,5 @@ pub(crate) fn closes(
         app,
         points,
     };
-    comes_in(tables, cont, call);
+    work_or_wait(tables, cont, call);
 }

@@ -24,10 +24,10 @@ mod taking;
 mod visitor;
 mod waiting;
 
-pub use beginning::enters_new;
-pub use carrying::bytes_in;
+pub use beginning::enter_new;
+pub use carrying::total_bytes;
 pub use entering::enter;
-pub use fixed::enters_fixed;
+pub use fixed::enter_fixed;
 pub use plans::apply;
-pub use resuming::enters_resumed;
+pub use resuming::enter_resumed;
 pub use visitor::{Visitor, make_room};

@@ -16,10 +16,10 @@ ghost use Rattle.session_table.specs.Sessions.{has_room};
 ghost use Rattle.kernel_state.specs.Blanks.{IsBlank};
 ghost use Rattle.kernel_entry.specs.Applying.{HasCome, IsNew, IsTaken, MayCome, MayOpen, open_comes};
 
-use crate::filling::waits_as;
-use crate::pinning::pins;
-use crate::waiting::joins;
-use begin_call::{OpenCall, opens_kept, opens_made, shared_instance};
+use crate::filling::fill_waiting;
+use crate::pinning::pin_cookies;
+use crate::waiting::join_line;
+use begin_call::{OpenCall, open_kept, open_made, shared_instance};
 use frame_pool::Pages;
 use job_model::CallKind;
 use kernel_state::{Application, Tables};
@@ -30,7 +30,7 @@ use session_table::Sessions;
 use ta_params::Login;
 
 /// Keeps a session that isn't opened yet, and gives its number.
-fn reserves(sessions: &mut Sessions, client: u32, login: Login, instance: u32) -> u32
+fn reserve_session(sessions: &mut Sessions, client: u32, login: Login, instance: u32) -> u32
     requires { has_room sessions.old ≡ true }
     ensures number { result ≡ sessions.old.next }
     ensures after { sessions.new ≡ record {
@@ -45,7 +45,7 @@ fn reserves(sessions: &mut Sessions, client: u32, login: Login, instance: u32) -
 }
 
 /// Begins on the instance that it shares, or on a new one; or waits, where another call holds that.
-fn comes_in(tables: &mut Tables, cont: &mut Cont<Pages>, call: OpenCall)
+fn open_or_wait(tables: &mut Tables, cont: &mut Cont<Pages>, call: OpenCall)
     requires new { IsNew cont.old }
     requires comes { MayCome tables.old call.slot (application_of call.app) }
     requires opens { MayOpen tables.old (application_of call.app) }
@@ -57,16 +57,16 @@ fn comes_in(tables: &mut Tables, cont: &mut Cont<Pages>, call: OpenCall)
         → HasFreePages setup tables.old → HasFreePages setup tables.new }
 {
     match shared_instance(tables, &call.app) {
-        None => opens_made(tables, cont, call),
+        None => open_made(tables, cont, call),
         Some(shared) => match shared.holder {
-            None => opens_kept(tables, cont, call, shared.number),
-            Some(_) => joins(tables, cont, call.app, shared.number, call.slot),
+            None => open_kept(tables, cont, call, shared.number),
+            Some(_) => join_line(tables, cont, call.app, shared.number, call.slot),
         },
     }
 }
 
 /// An open of this application.
-pub(crate) fn opens(
+pub(crate) fn apply_open(
     tables: &mut Tables,
     entered: &Entered,
     app: Application,
@@ -102,9 +102,9 @@ pub(crate) fn opens(
         session: 0,
         instance: 0,
     };
-    waits_as(cont, entry);
+    fill_waiting(cont, entry);
     let slot = entered.slot;
-    comes_in(tables, cont, OpenCall { slot, app, login });
-    cont.session = reserves(&mut tables.sessions, entered.client, login, cont.instance);
-    pins(&mut tables.registry, cookies.as_slice(), slot);
+    open_or_wait(tables, cont, OpenCall { slot, app, login });
+    cont.session = reserve_session(&mut tables.sessions, entered.client, login, cont.instance);
+    pin_cookies(&mut tables.registry, cookies.as_slice(), slot);
 }

@@ -6,7 +6,7 @@ ghost use Rattle.shm_registry.specs.Registered.{with_pin};
 use shm_registry::Registry;
 
 /// The slot uses the buffers of these cookies.
-pub(crate) fn pins(registry: &mut Registry, cookies: &[u64], slot: u8)
+pub(crate) fn pin_cookies(registry: &mut Registry, cookies: &[u64], slot: u8)
     requires kept { AllByRecursion (λ cookie. IsSome (get registry.old.buffers cookie)) cookies.now }
     requires slot { slot < 16 }
     ensures { registry.new ≡ record registry.old {

@@ -12,10 +12,10 @@ ghost use Rattle.new_calls.specs.Deciding.{call_found, call_with, taken_of};
 ghost use Rattle.kernel_state.specs.Blanks.{IsBlank};
 ghost use Rattle.kernel_entry.specs.Applying.{CanTake, CanTakeFor, IsTaken, meant_by};
 
-use crate::buffers::{drops_buffer, keeps_buffer};
-use crate::in_session::{closes, invokes};
-use crate::opening::opens;
-use crate::settling::{settled_call, settles};
+use crate::buffers::{drop_buffer, keep_buffer};
+use crate::in_session::{apply_close, apply_invoke};
+use crate::opening::apply_open;
+use crate::settling::{settle, settled_call};
 use frame_pool::Pages;
 use kernel_state::Tables;
 use new_calls::{Entered, Plan};
@@ -42,12 +42,12 @@ pub fn apply(
         → CanApply (call_with (booted_with setup) (tables_of tables.old) entered.now) plan
         → HasFreePages setup tables.old → HasFreePages setup tables.new }
 {
-    pins_argument(&mut tables.registry, entered);
+    pin_argument(&mut tables.registry, entered);
     apply_plan(alloc, tables, entered, plan, cont);
 }
 
 /// The slot pins the cookie that names the call's argument, if one does.
-fn pins_argument(registry: &mut Registry, entered: &Entered)
+fn pin_argument(registry: &mut Registry, entered: &Entered)
     requires { ForSome entered.now.cookie (λ cookie. IsSome (get registry.old.buffers cookie)) }
     ensures { registry.new ≡ record registry.old { pins = pins_with entered.now.cookie registry.old.pins entered.now.slot } }
 {
@@ -74,21 +74,21 @@ fn apply_plan(
         → HasFreePages setup tables.old → HasFreePages setup tables.new }
 {
     match plan {
-        Plan::Settles(settled) => settles(alloc, cont, entered, &settled),
-        Plan::Opens { app, login, copies } => opens(tables, entered, app, login, copies, cont),
+        Plan::Settles(settled) => settle(alloc, cont, entered, &settled),
+        Plan::Opens { app, login, copies } => apply_open(tables, entered, app, login, copies, cont),
         Plan::Invokes {
             session,
             app,
             copies,
-        } => invokes(tables, entered, session, app, copies, cont),
-        Plan::Closes { session, app } => closes(alloc, tables, entered, session, app, cont),
+        } => apply_invoke(tables, entered, session, app, copies, cont),
+        Plan::Closes { session, app } => apply_close(alloc, tables, entered, session, app, cont),
         Plan::Cancels => settled_call(alloc, cont, entered, entered.head.session, TEE_SUCCESS),
         Plan::KeepsBuffer { cookie, buffer } => {
-            keeps_buffer(&mut tables.registry, cookie, buffer);
+            keep_buffer(&mut tables.registry, cookie, buffer);
             settled_call(alloc, cont, entered, 0, TEE_SUCCESS);
         }
         Plan::DropsBuffer { cookie } => {
-            drops_buffer(&mut tables.registry, cookie);
+            drop_buffer(&mut tables.registry, cookie);
             settled_call(alloc, cont, entered, 0, TEE_SUCCESS);
         }
     }

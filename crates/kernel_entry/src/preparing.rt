@@ -8,7 +8,7 @@ ghost use Rattle.ns_ram.specs.Reads.{total_bytes};
 ghost use Rattle.resumed_calls.specs.Deciding.{CanDecide};
 ghost use Rattle.kernel_entry.specs.Entering.{Fit, HasBox, HasMoreRoom, Prepares};
 
-use crate::carrying::bytes_in;
+use crate::carrying::total_bytes;
 use crate::deciding::{EntryDecision, decide};
 use crate::visitor::make_room;
 use base::NoMemory;
@@ -87,7 +87,7 @@ fn fit(journal: &Journal, reads: &Reads) -> Result<(), EnterRefusal>
     requires { copied_bytes journal.now.events ≤ 2 ^ 28 }
     ensures { Fit (copied_bytes journal.now.events) (total_bytes reads.now) result }
 {
-    let Some(more) = bytes_in(reads) else {
+    let Some(more) = total_bytes(reads) else {
         return Err(EnterRefusal::Memory);
     };
     let copied = journal.copied();

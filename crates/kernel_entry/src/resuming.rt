@@ -16,8 +16,8 @@ ghost use Rattle.thread_slots.specs.declared.slot.Slot.TheVariants.{Active};
 ghost use Rattle.kernel_entry.specs.Resuming.{CanGoOn, HasGoneOn, IsSuspended, goes_on_as};
 ghost use Rattle.kernel_entry.specs.Visiting.{HasComeIn, StandsAfter};
 
-use crate::carrying::carried;
-use crate::visitor::{Visitor, lets_in};
+use crate::carrying::carried_call;
+use crate::visitor::{Visitor, let_in};
 use frame_pool::Pages;
 use kernel_state::{Cancellation, Carried, Errand, Parts};
 use ns_ram::Reads;
@@ -36,7 +36,7 @@ fn slot_named(slots: &Slots<Box<Cont<Pages>>>, regs: &Regs) -> u8
 }
 
 /// Hands the call of that slot out, which is active on this processor then.
-fn hands_out(slots: &mut Slots<Box<Cont<Pages>>>, regs: &Regs, cpu: u8) -> Box<Cont<Pages>>
+fn hand_out(slots: &mut Slots<Box<Cont<Pages>>>, regs: &Regs, cpu: u8) -> Box<Cont<Pages>>
     requires { IsSuspended slots.old regs.now.a }
     ensures cont { IsHandedOut slots.old regs.now.a result }
     ensures after { slots.new ≡ slice_set slots.old (thread_in regs.now.a) (Active cpu) }
@@ -57,7 +57,7 @@ fn is_marked(besides: &[Cancellation], slot: u8) -> bool
 
 /// Resumes the call that the registers name: it is out with this processor, and has come as far as its resume takes
 /// it.
-fn goes_on(parts: &mut Parts, regs: &Regs, cpu: u8, decided: Box<Decided>) -> Box<Cont<Pages>>
+fn go_on(parts: &mut Parts, regs: &Regs, cpu: u8, decided: Box<Decided>) -> Box<Cont<Pages>>
     requires { CanGoOn parts.old regs.now.a decided.value }
     ensures slots { parts.new.slots ≡ slice_set parts.old.slots (thread_in regs.now.a) (Active cpu) }
     ensures call { HasGoneOn parts.old regs.now.a decided.value parts.new.tables result.value }
@@ -66,7 +66,7 @@ fn goes_on(parts: &mut Parts, regs: &Regs, cpu: u8, decided: Box<Decided>) -> Bo
 {
     let slot = slot_named(&parts.slots, regs);
     let marked = is_marked(parts.cancellations.as_slice(), slot);
-    let mut cont = hands_out(&mut parts.slots, regs, cpu);
+    let mut cont = hand_out(&mut parts.slots, regs, cpu);
     let Decided { given, app } = Box::into_inner(decided);
     let resumed = Resumed {
         slot,
@@ -80,7 +80,7 @@ fn goes_on(parts: &mut Parts, regs: &Regs, cpu: u8, decided: Box<Decided>) -> Bo
 
 /// Lets a processor in for the call that its registers name, which goes on with this. The parts stand for the kernel
 /// after it, and the processor carries what the call has come to.
-pub fn enters_resumed(
+pub fn enter_resumed(
     parts: &mut Parts,
     visitor: Visitor,
     decided: Box<Decided>,
@@ -100,7 +100,7 @@ pub fn enters_resumed(
         IsCarriedAs result progress.call progress.call.phase) }
 {
     let slot = slot_named(&parts.slots, &visitor.regs);
-    let cont = goes_on(parts, &visitor.regs, visitor.cpu, decided);
-    lets_in(parts, visitor, Errand::InSlot(slot), reads);
-    carried(cont)
+    let cont = go_on(parts, &visitor.regs, visitor.cpu, decided);
+    let_in(parts, visitor, Errand::InSlot(slot), reads);
+    carried_call(cont)
 }

@@ -8,7 +8,7 @@ ghost use Rattle.new_calls.specs.Deciding.{call_found, settled_of};
 ghost use Rattle.kernel_state.specs.Blanks.{IsBlank};
 ghost use Rattle.kernel_entry.specs.Applying.{HasItsLogin, IsNoOpen};
 
-use crate::filling::ends_as;
+use crate::filling::fill_ended;
 use arrayvec::ArrayVec;
 use frame_pool::Pages;
 use job_model::CallKind;
@@ -41,7 +41,7 @@ fn settled_with(alloc: Global, cont: &mut Cont<Pages>, entered: &Entered, settli
         login,
         code,
     } = settling;
-    ends_as(
+    fill_ended(
         cont,
         CallEntry {
             client: entered.client,
@@ -87,7 +87,7 @@ pub(crate) fn settled_call(
 }
 
 /// A call that a test has settled.
-pub(crate) fn settles(alloc: Global, cont: &mut Cont<Pages>, entered: &Entered, settled: &Settled)
+pub(crate) fn settle(alloc: Global, cont: &mut Cont<Pages>, entered: &Entered, settled: &Settled)
     requires { IsBlank cont.old }
     ensures { (boot : Booted) (tables : AnyTables)
         → IsCall cont.new (settled_of (call_found boot tables entered.now) settled.now).call }

@@ -7,13 +7,7 @@ use kernel_state::{Cancellation, Parts, mark_calls};
 
 /// Makes the lowest free slot active on the processor, with this beside it. A cancel marks the calls that it means, and
 /// is none of them.
-pub(crate) fn takes_slot(
-    parts: &mut Parts,
-    cpu: u8,
-    slot: u8,
-    beside: Cancellation,
-    is_cancel: bool,
-)
+pub(crate) fn take_slot(parts: &mut Parts, cpu: u8, slot: u8, beside: Cancellation, is_cancel: bool)
     requires lowest { lowest_free parts.old.slots ≡ Some slot }
     requires beside { slot < length parts.old.cancellations.items }
     ensures { HasTaken parts.old parts.new cpu slot beside (cancels_by is_cancel beside) }

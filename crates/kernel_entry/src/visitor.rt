@@ -29,7 +29,7 @@ pub fn make_room(journal: &mut Journal, cpus: u8) -> Result<(), NoMemory>
 }
 
 /// Lets a processor in for this, with what its entry has read.
-pub(crate) fn lets_in(parts: &mut Parts, visitor: Visitor, errand: Errand, reads: Reads)
+pub(crate) fn let_in(parts: &mut Parts, visitor: Visitor, errand: Errand, reads: Reads)
     requires cpu { visitor.cpu < length parts.old.processors.items }
     requires room { 0 < parts.old.journal.spare }
     requires few { copied_bytes parts.old.journal.events + total_bytes reads < 2 ^ 64 }

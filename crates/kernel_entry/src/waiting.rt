@@ -24,7 +24,7 @@ fn kept_app(app: Application) -> ContApp
 }
 
 /// Lets the call of a slot wait for the instance, behind those that wait already.
-pub(crate) fn joins(
+pub(crate) fn join_line(
     tables: &mut Tables,
     cont: &mut Cont<Pages>,
     app: Application,

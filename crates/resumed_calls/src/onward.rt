@@ -12,7 +12,7 @@ use rpc_cont::{Cont, Phase, ResumeInput};
 /// Goes on by its phase: with its reply, or without a buffer, its application goes on that has asked, and a call that
 /// has ended wakes nobody more. Nothing else changes it.
 #[tactic(auto, using(crate::proofs::Goes::unchanged_onward, crate::proofs::Goes::answered_onward))]
-pub(crate) fn goes_on(cont: &mut Cont<Pages>, given: ResumeInput)
+pub(crate) fn go_on(cont: &mut Cont<Pages>, given: ResumeInput)
     requires phase { cont.old.phase ≢ Phase.Waits }
     requires asked { cont.old.phase ≡ Phase.Asks → CanBeAnswered bytes_of cont.old }
     ensures { (r : Resumed) → r.given ≡ given_as given → IsCall cont.old r.call → HasCome r.tables cont.new (onward_of r) }

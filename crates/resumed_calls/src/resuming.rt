@@ -11,9 +11,9 @@ ghost use Rattle.resumed_calls.specs.Onward.{HasCome};
 ghost use Rattle.resumed_calls.specs.Resuming.{CanResume};
 ghost use Rattle.resumed_calls.specs.Waiting.{IsAppFor};
 
-use crate::onward::goes_on;
-use crate::seeing::{call_given, sees};
-use crate::waiting::{Turn, resumes_waiting};
+use crate::onward::go_on;
+use crate::seeing::{call_given, see_mark};
+use crate::waiting::{Turn, resume_waiting};
 use frame_pool::Pages;
 use kernel_state::{Application, Setup, Tables};
 use rpc_cont::{Cont, Phase, ResumeInput};
@@ -49,7 +49,7 @@ pub fn resume_call(setup: &Setup, tables: &mut Tables, cont: &mut Cont<Pages>, r
         given,
         app,
     } = resumed;
-    sees(cont, marked);
+    see_mark(cont, marked);
     call_given(cont, &given);
     match cont.phase {
         Phase::Waits => {
@@ -59,9 +59,9 @@ pub fn resume_call(setup: &Setup, tables: &mut Tables, cont: &mut Cont<Pages>, r
                 without_buffer,
                 app,
             };
-            resumes_waiting(setup, tables, cont, turn);
+            resume_waiting(setup, tables, cont, turn);
         }
-        Phase::Runs | Phase::Asks | Phase::Ends => goes_on(cont, given),
+        Phase::Runs | Phase::Asks | Phase::Ends => go_on(cont, given),
     }
 }
 

@@ -12,7 +12,7 @@ use rpc_msgs::RpcBuffer;
 
 /// A call that was cancelled sees it. One that waits has no machine to tell.
 #[tactic(auto, using(crate::proofs::Seen::sees_nothing, crate::proofs::Seen::waiting_sees, crate::proofs::Seen::working_sees))]
-pub(crate) fn sees(cont: &mut Cont<Pages>, marked: bool)
+pub(crate) fn see_mark(cont: &mut Cont<Pages>, marked: bool)
     ensures call { (call : PendingCall) → IsCall cont.old call → call.marked ≡ marked → IsCall cont.new (sees call) }
     ensures stays { cont.new ≡ record cont.old { cancelled = cont.new.cancelled; machine = cont.new.machine } }
 {

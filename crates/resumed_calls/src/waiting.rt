@@ -18,7 +18,7 @@ ghost use Rattle.resumed_calls.specs.Onward.{HasCome};
 ghost use Rattle.resumed_calls.specs.Waiting.{CanBeginOn, IsInLine, IsItsApp, IsWaitingCall, MayBeItsApp, resumed_in};
 
 use begin_call::{
-    OpenCall, Points, SessionCall, begins_on, closing_points, has_pages_for, opens_kept, opens_new,
+    OpenCall, Points, SessionCall, begin_on, closing_points, has_pages_for, open_kept, open_new,
 };
 use frame_pool::Pages;
 use job_model::EntryPoint;
@@ -40,12 +40,7 @@ pub(crate) struct Turn {
 
 /// Tests a call that waits again. Its session may be gone.
 #[tactic(auto, using(crate::proofs::Line::in_session, crate::proofs::Line::pages_beside))]
-pub(crate) fn resumes_waiting(
-    setup: &Setup,
-    tables: &mut Tables,
-    cont: &mut Cont<Pages>,
-    turn: Turn,
-)
+pub(crate) fn resume_waiting(setup: &Setup, tables: &mut Tables, cont: &mut Cont<Pages>, turn: Turn)
     requires line { IsInLine (booted_with setup.now) (tables_of tables.old) turn.slot cont.old }
     requires app { MayBeItsApp (booted_with setup.now) cont.old turn.app }
     requires pages { HasFreePages setup.now tables.old }
@@ -55,14 +50,14 @@ pub(crate) fn resumes_waiting(
     ensures pages { HasFreePages setup.now tables.new }
 {
     match tables.sessions.find(cont.session).copied() {
-        Some(session) => tested_again(setup, tables, cont, turn, session),
-        None => ends_with(tables, cont, turn.slot, TEE_ERROR_BAD_PARAMETERS),
+        Some(session) => test_again(setup, tables, cont, turn, session),
+        None => end_with(tables, cont, turn.slot, TEE_ERROR_BAD_PARAMETERS),
     }
 }
 
 /// Tests it again in its session: its instance may be dead, on which only a close goes on, and another call may hold it.
 #[tactic(auto, using(crate::proofs::Line::on_free, crate::proofs::Line::ready_on, crate::proofs::Line::pages_beside))]
-fn tested_again(
+fn test_again(
     setup: &Setup,
     tables: &mut Tables,
     cont: &mut Cont<Pages>,
@@ -85,11 +80,11 @@ fn tested_again(
         app,
     } = turn;
     if is_lost(tables, cont) {
-        ends_with(tables, cont, slot, TEE_ERROR_TARGET_DEAD);
+        end_with(tables, cont, slot, TEE_ERROR_TARGET_DEAD);
     } else if tables.is_held(cont.instance) {
-        sleeps_on(tables, cont, slot, without_buffer);
+        sleep_on(tables, cont, slot, without_buffer);
     } else {
-        begins_in(setup, tables, cont, SessionTurn { slot, session, app });
+        begin_in(setup, tables, cont, SessionTurn { slot, session, app });
     }
 }
 
@@ -117,7 +112,7 @@ fn is_close(kind: CallKind) -> bool
 
 /// Sleeps on, where it has a buffer to ask for that.
 #[tactic(auto, using(crate::proofs::Line::with_place))]
-fn sleeps_on(tables: &mut Tables, cont: &mut Cont<Pages>, slot: u8, without_buffer: bool)
+fn sleep_on(tables: &mut Tables, cont: &mut Cont<Pages>, slot: u8, without_buffer: bool)
     requires line { waits (tables_of tables.old).waiters slot ≡ true }
     requires request { cont.old.request ≡ None }
     ensures call { (boot : Booted) (given : Given) (call : PendingCall) (params : AnyParams) → is_without_buffer given ≡ without_buffer
@@ -126,13 +121,13 @@ fn sleeps_on(tables: &mut Tables, cont: &mut Cont<Pages>, slot: u8, without_buff
     ensures stays { tables.new ≡ record tables.old { waiters = tables.new.waiters } }
 {
     if without_buffer {
-        ends_with(tables, cont, slot, TEE_ERROR_OUT_OF_MEMORY);
+        end_with(tables, cont, slot, TEE_ERROR_OUT_OF_MEMORY);
     }
 }
 
 /// Begins, by its kind. A call of a session whose instance is gone has lost its session with it.
 #[tactic(auto, using(crate::proofs::Line::pages_beside))]
-fn begins_in(setup: &Setup, tables: &mut Tables, cont: &mut Cont<Pages>, turn: SessionTurn)
+fn begin_in(setup: &Setup, tables: &mut Tables, cont: &mut Cont<Pages>, turn: SessionTurn)
     requires line { IsInLine (booted_with setup.now) (tables_of tables.old) turn.slot cont.old }
     requires app { MayBeItsApp (booted_with setup.now) cont.old turn.app }
     requires session { get (tables_of tables.old).sessions cont.old.session ≡ Some turn.session }
@@ -146,16 +141,16 @@ fn begins_in(setup: &Setup, tables: &mut Tables, cont: &mut Cont<Pages>, turn: S
 {
     let SessionTurn { slot, session, app } = turn;
     let Some(app) = app else {
-        return ends_with(tables, cont, slot, TEE_ERROR_BAD_PARAMETERS);
+        return end_with(tables, cont, slot, TEE_ERROR_BAD_PARAMETERS);
     };
     match (cont.kind, tables.is_kept(cont.instance)) {
         (CallKind::Open, _) => {
             let login = session.login;
-            begins_open(setup, tables, cont, OpenCall { slot, app, login });
+            begin_open(setup, tables, cont, OpenCall { slot, app, login });
         }
         (CallKind::Invoke { func }, true) => {
             let points = Points::only(EntryPoint::Invoke { func });
-            begins(
+            begin(
                 setup,
                 tables,
                 cont,
@@ -169,7 +164,7 @@ fn begins_in(setup: &Setup, tables: &mut Tables, cont: &mut Cont<Pages>, turn: S
         }
         (CallKind::Close, true) => {
             let points = closing_points(tables, &app, cont.session, session);
-            begins(
+            begin(
                 setup,
                 tables,
                 cont,
@@ -182,16 +177,16 @@ fn begins_in(setup: &Setup, tables: &mut Tables, cont: &mut Cont<Pages>, turn: S
             );
         }
         (CallKind::Invoke { .. }, false) => {
-            ends_with(tables, cont, slot, TEE_ERROR_BAD_PARAMETERS);
+            end_with(tables, cont, slot, TEE_ERROR_BAD_PARAMETERS);
         }
-        (CallKind::Close, false) => ends_with(tables, cont, slot, TEE_ERROR_BAD_PARAMETERS),
-        (CallKind::Settled, _) => ends_with(tables, cont, slot, TEE_ERROR_BAD_PARAMETERS),
+        (CallKind::Close, false) => end_with(tables, cont, slot, TEE_ERROR_BAD_PARAMETERS),
+        (CallKind::Settled, _) => end_with(tables, cont, slot, TEE_ERROR_BAD_PARAMETERS),
     }
 }
 
 /// An open begins on its instance or, where that is gone, on a new one of the same number, under the boot's key.
 #[tactic(auto, using(crate::proofs::Begins::ready_for, crate::proofs::Begins::absent_in, crate::proofs::Begins::room_in, crate::proofs::Line::pages_beside))]
-fn begins_open(setup: &Setup, tables: &mut Tables, cont: &mut Cont<Pages>, opener: OpenCall)
+fn begin_open(setup: &Setup, tables: &mut Tables, cont: &mut Cont<Pages>, opener: OpenCall)
     requires line { IsInLine (booted_with setup.now) (tables_of tables.old) opener.slot cont.old }
     requires app { IsItsApp (booted_with setup.now) cont.old (application_of opener.app) }
     requires opens { cont.old.kind ≡ CallKind.Open }
@@ -207,18 +202,18 @@ fn begins_open(setup: &Setup, tables: &mut Tables, cont: &mut Cont<Pages>, opene
     if tables.is_kept(number) {
         tables.waiters.leave(opener.slot);
         cont.key = setup.key;
-        opens_kept(tables, cont, opener, number);
+        open_kept(tables, cont, opener, number);
     } else if has_pages_for(setup, tables, &opener.app) {
         tables.waiters.leave(opener.slot);
         cont.key = setup.key;
-        opens_new(tables, cont, opener, number);
+        open_new(tables, cont, opener, number);
     } else {
-        ends_with(tables, cont, opener.slot, TEE_ERROR_OUT_OF_MEMORY);
+        end_with(tables, cont, opener.slot, TEE_ERROR_OUT_OF_MEMORY);
     }
 }
 
 /// Begins in its session, under the boot's key, and waits no more.
-fn begins(setup: &Setup, tables: &mut Tables, cont: &mut Cont<Pages>, call: SessionCall)
+fn begin(setup: &Setup, tables: &mut Tables, cont: &mut Cont<Pages>, call: SessionCall)
     requires line { IsInLine (booted_with setup.now) (tables_of tables.old) call.slot cont.old }
     requires app { IsItsApp (booted_with setup.now) cont.old (application_of call.app) }
     requires unsettled { cont.old.kind ≡ CallKind.Settled → ⊥ }
@@ -234,12 +229,12 @@ fn begins(setup: &Setup, tables: &mut Tables, cont: &mut Cont<Pages>, call: Sess
 {
     tables.waiters.leave(call.slot);
     cont.key = setup.key;
-    begins_on(tables, cont, call);
+    begin_on(tables, cont, call);
 }
 
 /// Ends with this result, which no application returned, and waits no more.
 #[tactic(auto, using(crate::proofs::Line::ended))]
-fn ends_with(tables: &mut Tables, cont: &mut Cont<Pages>, slot: u8, code: u32)
+fn end_with(tables: &mut Tables, cont: &mut Cont<Pages>, slot: u8, code: u32)
     requires line { waits (tables_of tables.old).waiters slot ≡ true }
     requires request { cont.old.request ≡ None }
     ensures call { (boot : Booted) (given : Given) (call : PendingCall) → IsCall cont.old call

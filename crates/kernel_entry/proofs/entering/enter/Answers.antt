@@ -26,15 +26,15 @@ returns-in_err-prepared c =
     rw (told.1, told.2) (is_refused c.args.core.now _ c.prepare.new.parts c.args.visitor c.args.lane.now c.in_err-prepared.field-0.0 c.prepare.ensures.room
     (roomier_replays c.args.core.now.parts c.prepare.new.parts c.prepare.ensures.room c.args.core.now.replay) refl c.in_err-prepared.ensures.prepares)
 
-pub comes_in-call-requires-clause-cpu : goal.comes_in-call-requires-clause-cpu
-comes_in-call-requires-clause-cpu c =
+pub come_in-call-requires-clause-cpu : goal.come_in-call-requires-clause-cpu
+come_in-call-requires-clause-cpu c =
     let old = c.args.core.now.parts in
     let mid = c.prepare.new.parts in
     let more = c.prepare.ensures.room in
     cpu_there mid c.args.visitor.cpu (roomier_replays old mid more c.args.core.now.replay) (outside_still old mid c.args.visitor.cpu more c.requires.outside)
 
-pub comes_in-call-requires-clause-follows : goal.comes_in-call-requires-clause-follows
-comes_in-call-requires-clause-follows c =
+pub come_in-call-requires-clause-follows : goal.come_in-call-requires-clause-follows
+come_in-call-requires-clause-follows c =
     can_follow c.prepare.new.parts c.args.visitor.regs.a c.in_ok-prepared.prepared.decision
     (roomier_replays c.args.core.now.parts c.prepare.new.parts c.prepare.ensures.room c.args.core.now.replay)
     c.in_ok-prepared.ensures.prepares.blank c.in_ok-prepared.ensures.prepares.found
@@ -43,13 +43,13 @@ pub invariant_of-core-2 : goal.invariant_of-core-2
 invariant_of-core-2 c =
     let old = c.args.core.now.parts in
     let mid = c.prepare.new.parts in
-    let new = c.comes_in-call.new.parts in
+    let new = c.come_in-call.new.parts in
     let more = c.prepare.ensures.room in
     let prepared = c.in_ok-prepared.prepared in
-    let came = arrives old mid new c.args.visitor c.args.lane.now prepared c.comes_in-call.result c.requires.outside c.requires.some_steps c.requires.few_steps more
-    c.in_ok-prepared.ensures.prepares c.comes_in-call.ensures.come c.comes_in-call.ensures.stands c.comes_in-call.ensures.carries in
+    let came = arrives old mid new c.args.visitor c.args.lane.now prepared c.come_in-call.result c.requires.outside c.requires.some_steps c.requires.few_steps more
+    c.in_ok-prepared.ensures.prepares c.come_in-call.ensures.come c.come_in-call.ensures.stands c.come_in-call.ensures.carries in
     record {
-      replay = arrived_replays mid new c.args.visitor c.args.lane.now prepared.decision prepared.reads c.comes_in-call.result came
+      replay = arrived_replays mid new c.args.visitor c.args.lane.now prepared.decision prepared.reads c.come_in-call.result came
           (roomier_replays old mid more c.args.core.now.replay);
     }
 
@@ -57,13 +57,13 @@ pub invariant_of-result : goal.invariant_of-result
 invariant_of-result c =
     let old = c.args.core.now.parts in
     let mid = c.prepare.new.parts in
-    let new = c.comes_in-call.new.parts in
+    let new = c.come_in-call.new.parts in
     let more = c.prepare.ensures.room in
     let prepared = c.in_ok-prepared.prepared in
-    let came = arrives old mid new c.args.visitor c.args.lane.now prepared c.comes_in-call.result c.requires.outside c.requires.some_steps c.requires.few_steps more
-    c.in_ok-prepared.ensures.prepares c.comes_in-call.ensures.come c.comes_in-call.ensures.stands c.comes_in-call.ensures.carries in
+    let came = arrives old mid new c.args.visitor c.args.lane.now prepared c.come_in-call.result c.requires.outside c.requires.some_steps c.requires.few_steps more
+    c.in_ok-prepared.ensures.prepares c.come_in-call.ensures.come c.come_in-call.ensures.stands c.come_in-call.ensures.carries in
     record {
-      ready = arrived_ready mid new c.args.visitor c.args.lane.now prepared.decision prepared.reads c.comes_in-call.result came c.next_place-entry_at.ensures.fits
+      ready = arrived_ready mid new c.args.visitor c.args.lane.now prepared.decision prepared.reads c.come_in-call.result came c.next_place-entry_at.ensures.fits
           (roomier_replays old mid more c.args.core.now.replay);
     }
 
@@ -71,10 +71,10 @@ pub returns : goal.returns
 returns c =
     let old = c.args.core.now.parts in
     let mid = c.prepare.new.parts in
-    let new = c.comes_in-call.new.parts in
+    let new = c.come_in-call.new.parts in
     let more = c.prepare.ensures.room in
     let prepared = c.in_ok-prepared.prepared in
-    let came = arrives old mid new c.args.visitor c.args.lane.now prepared c.comes_in-call.result c.requires.outside c.requires.some_steps c.requires.few_steps more
-    c.in_ok-prepared.ensures.prepares c.comes_in-call.ensures.come c.comes_in-call.ensures.stands c.comes_in-call.ensures.carries in
+    let came = arrives old mid new c.args.visitor c.args.lane.now prepared c.come_in-call.result c.requires.outside c.requires.some_steps c.requires.few_steps more
+    c.in_ok-prepared.ensures.prepares c.come_in-call.ensures.come c.come_in-call.ensures.stands c.come_in-call.ensures.carries in
     has_entered c.args.core.now _ mid c.args.visitor c.args.lane.now prepared.decision prepared.reads _ more came
     (roomier_replays old mid more c.args.core.now.replay) refl refl c.next_place-entry_at.ensures.place
