@@ -70,7 +70,7 @@ pub record Arrives (old new : Parts) (visitor : Visitor) (lane : List ℕ) (deci
   pub some_steps : 1 ≤ visitor.steps
   pub few_steps : visitor.steps ≤ 1000000
   pub decides : IsDecidedBy old visitor.regs.a lane reads decided
-  pub few : copied_bytes old.journal.events + total_bytes reads ≤ 2 ^ 28
+  pub few : copied_bytes old.journal.events + total_bytes reads ≤ old.setup.terms.most
   pub come : HasComeIn old new visitor reads
   pub stands : (k : Kernel) → StandsAfter old new visitor k (decision_as old k visitor.regs.a decided)
   pub carries : (k : Kernel) → StandsFor old k → IsCarriedBy call (decision_as old k visitor.regs.a decided)
@@ -108,7 +108,7 @@ module _ (old new : Parts) (visitor : Visitor) (lane : List ℕ) (decided : Entr
 
   replays_so : Replays old → Replays new
   replays_so so = replays_entered old new visitor lane (decision_as old so.kernel visitor.regs.a decided) reads so (may_enter so) (came.decides so.kernel so.stands) came.come.setup came.come.events
-      (came.stands so.kernel so.stands)
+      came.come.keeps (came.stands so.kernel so.stands)
 
   pub arrived_replays : ∥ Replays old ∥₁ → ∥ Replays new ∥₁
   arrived_replays fact = ∥∥₁_map fact replays_so
@@ -163,6 +163,7 @@ pub has_entered : (old new : Core) (mid : Parts) (visitor : Visitor) (lane : Lis
     work.entry_at ≡ length mid.journal.events → HasEntered old new (coming_of visitor) lane work
 has_entered old new mid visitor lane decided reads work more came fact cpu steps at = record {
   boot = ap booted_with (came.come.setup ∙ same_setup old.parts mid more);
+  terms = ap (λ setup. setup.terms) (came.come.setup ∙ same_setup old.parts mid more);
   reads = reads;
   from_lane = arrived_reads mid new.parts visitor lane decided reads work.call came fact;
   events = came.come.events ∙ ap (λ (events : List Event). events ++ Entry visitor.cpu visitor.regs visitor.steps reads ∷ []) more.events;
@@ -174,6 +175,7 @@ has_entered old new mid visitor lane decided reads work more came fact cpu steps
 as_before : (old new : Core) (mid : Parts) → HasMoreRoom old.parts mid → new.parts ≡ mid → IsAsBefore old new
 as_before old new mid more same = record {
   boot = ap (λ (parts : Parts). booted_with parts.setup) same ∙ ap booted_with (same_setup old.parts mid more);
+  terms = ap (λ (parts : Parts). parts.setup.terms) same ∙ ap (λ setup. setup.terms) (same_setup old.parts mid more);
   events = ap (λ (parts : Parts). parts.journal.events) same ∙ more.events;
 }
 
@@ -185,7 +187,7 @@ too_much old mid visitor lane copied more room fact too = record {
       option_and_then (bytes_read (booted_with setup) lane (visit_of (coming_of visitor))) (kernel_after (booted_with setup) events))
       (sym (same_setup old.parts mid room)) (sym room.events)
       ∙ reads_too_much mid visitor lane copied more fact too;
-  above = too.above;
+  above = subst (λ setup. setup.terms.most < copied + more) (same_setup old.parts mid room) too.above;
 }
 
 -- one that is refused leaves the core as it was

@@ -81,6 +81,10 @@ can_decide parts regs fact = ∥∥₁_map fact (λ (so : Replays parts). record
 pub has_pages : (parts : Parts) → ∥ Replays parts ∥₁ → HasFreePages parts.setup parts.tables
 has_pages parts fact = ∥∥₁_elim fact (Prim.hlevel props) (λ (so : Replays parts). so.stands.pages)
 
+-- the bytes that may be read fit a counter
+pub most_bounded : (parts : Parts) → ∥ Replays parts ∥₁ → parts.setup.terms.most ≤ 2 ^ 63
+most_bounded parts fact = ∥∥₁_elim fact (Prim.hlevel props) (λ (so : Replays parts). so.bounded)
+
 -- each instance is of an application of the boot
 pub have_apps : (parts : Parts) → ∥ Replays parts ∥₁ → HaveApps (booted_with parts.setup) (tables_of parts.tables)
 have_apps parts fact = ∥∥₁_elim fact (Prim.hlevel props) (λ (so : Replays parts). λ number instance there.
@@ -113,7 +117,10 @@ roomier old new more so =
       are_natives = subst (λ s. AreNatives (boot_of s) (natives_of s)) (sym setup) so.are_natives;
       comes_to = ap₂ (λ s (events : List Event). kernel_after (booted_with s) events) setup more.events ∙ so.comes_to;
       stands = roomier_stands old new so.kernel more so.stands;
-      few = subst (λ (events : List Event). copied_bytes events ≤ 2 ^ 28) (sym more.events) so.few;
+      keeps = more.keeps ∙ so.keeps ∙ sym (ap (λ s. s.terms.keeps) setup);
+      few = subst (λ s. copied_bytes new.journal.events ≤ s.terms.most) (sym setup)
+          (subst (λ (events : List Event). copied_bytes events ≤ old.setup.terms.most) (sym more.events) so.few);
+      bounded = subst (λ s. s.terms.most ≤ 2 ^ 63) (sym setup) so.bounded;
       agree = subst (λ (events : List Event). AllByRecursion ReadsAgree events) (sym more.events) so.agree;
     }
 

@@ -16,7 +16,7 @@ use Rattle.kernel_entry.specs.declared.deciding.EntryDecision.TheVariants as dec
 pub decided_boxed : (parts : Parts) (boxes : Boxes) (regs lane : List ℕ) (reads : List Read) (decided : EntryDecision) →
     IsDecidedBy parts regs lane reads decided → IsDecidedBy (record parts { blanks = boxes }) regs lane reads decided
 decided_boxed parts boxes regs lane reads decided decides kernel stands =
-    decides kernel (roomier_stands (record parts { blanks = boxes }) parts kernel (record { events = refl; spare = omega (arith); stays = refl }) stands)
+    decides kernel (roomier_stands (record parts { blanks = boxes }) parts kernel (record { events = refl; keeps = refl; spare = omega (arith); stays = refl }) stands)
 
 pub found_boxed : (parts : Parts) (boxes : Boxes) (regs : List ℕ) (decided : EntryDecision) →
     HasFound parts regs decided → HasFound (record parts { blanks = boxes }) regs decided
@@ -26,7 +26,7 @@ found_boxed parts boxes regs (decision.Begins entered plan) found =
 found_boxed parts boxes regs (decision.GoesOn decided) found = record { suspended = found.suspended; app = found.app }
 
 pub too_much : (parts : Parts) (regs lane : List ℕ) (reads : List Read) (decided : EntryDecision) (refusal : EnterRefusal) →
-    IsDecidedBy parts regs lane reads decided → Fit {A = Unit {0}} (copied_bytes parts.journal.events) (total_bytes reads) (Err refusal) →
+    IsDecidedBy parts regs lane reads decided → Fit {A = Unit {0}} parts.setup.terms.most (copied_bytes parts.journal.events) (total_bytes reads) (Err refusal) →
     Prepares parts regs lane (Err refusal)
 too_much parts regs lane reads decided (Full copied more) decides full = record {
   reads = reads;

@@ -44,7 +44,7 @@ pub record MayEnter (parts : Parts) (kernel : Kernel) (visitor : Visitor) (reads
   pub outside : slice_get kernel.processors visitor.cpu ≡ Some Outside
   pub some_steps : 1 ≤ visitor.steps
   pub few_steps : visitor.steps ≤ 1000000
-  pub few_bytes : copied_bytes parts.journal.events + total_bytes reads ≤ 2 ^ 28
+  pub few_bytes : copied_bytes parts.journal.events + total_bytes reads ≤ parts.setup.terms.most
 
 -- ---- reads of one lane agree
 
@@ -154,8 +154,8 @@ comes_entered old new visitor lane decision reads fact may decides setup events 
 pub replays_entered : (old new : Parts) (visitor : Visitor) (lane : List ℕ) (decision : Decision) (reads : List Read) (fact : Replays old) →
     MayEnter old fact.kernel visitor reads → Decides (booted_with old.setup) fact.kernel visitor lane decision reads →
     new.setup ≡ old.setup → new.journal.events ≡ old.journal.events ++ Entry visitor.cpu visitor.regs visitor.steps reads ∷ [] →
-    StandsFor new (after_decision fact.kernel (visit_of (coming_of visitor)) decision) → Replays new
-replays_entered old new visitor lane decision reads fact may decides setup events stands =
+    new.journal.keeps ≡ old.journal.keeps → StandsFor new (after_decision fact.kernel (visit_of (coming_of visitor)) decision) → Replays new
+replays_entered old new visitor lane decision reads fact may decides setup events keeps stands =
     let happened = Entry visitor.cpu visitor.regs visitor.steps reads in
     record {
       kernel = after_decision fact.kernel (visit_of (coming_of visitor)) decision;
@@ -163,8 +163,11 @@ replays_entered old new visitor lane decision reads fact may decides setup event
       are_natives = subst (λ setup. AreNatives (boot_of setup) (natives_of setup)) (sym setup) fact.are_natives;
       comes_to = comes_entered old new visitor lane decision reads fact may decides setup events;
       stands = stands;
-      few = subst (λ (events : List Event). copied_bytes events ≤ 2 ^ 28) (sym events)
-          (subst (λ (bytes : ℕ). bytes ≤ 2 ^ 28) (sym (copied_behind old.journal.events happened)) may.few_bytes);
+      keeps = keeps ∙ fact.keeps ∙ sym (ap (λ setup. setup.terms.keeps) setup);
+      few = subst (λ setup. copied_bytes new.journal.events ≤ setup.terms.most) (sym setup)
+          (subst (λ (events : List Event). copied_bytes events ≤ old.setup.terms.most) (sym events)
+          (subst (λ (bytes : ℕ). bytes ≤ old.setup.terms.most) (sym (copied_behind old.journal.events happened)) may.few_bytes));
+      bounded = subst (λ setup. setup.terms.most ≤ 2 ^ 63) (sym setup) fact.bounded;
       agree = subst (λ (events : List Event). AllByRecursion ReadsAgree events) (sym events)
           (agree_behind old.journal.events happened fact.agree
           (all_agree lane reads (read_from_lane (booted_with old.setup) fact.kernel visitor lane decision reads decides)));

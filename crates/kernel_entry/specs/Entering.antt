@@ -1,5 +1,5 @@
 -- A processor that comes in: what is prepared for it, and what it carries.
-use Rattle.std.specs.Prelude.{◌≡◌, ℕ, ◌+◌, ◌<◌, ◌≤◌, ◌^◌, List, [], length, Result, Ok, Err}
+use Rattle.std.specs.Prelude.{◌≡◌, ℕ, ◌+◌, ◌<◌, ◌≤◌, List, [], length, Result, Ok, Err}
 use Rattle.event_journal.specs.Journal.{copied_bytes}
 use Rattle.kernel_model.specs.Decision as model
 use Rattle.kernel_model.specs.Decision.{Decision}
@@ -28,6 +28,7 @@ use Rattle.kernel_entry.specs.declared.preparing.Prepared.{Prepared}
 -- there is room for as many more events, or more; but for boxes nothing else changes
 pub record HasMoreRoom (old new : Parts) : Type 0 where
   pub events : new.journal.events ≡ old.journal.events
+  pub keeps : new.journal.keeps ≡ old.journal.keeps
   pub spare : old.journal.spare ≤ new.journal.spare
   pub stays : new ≡ record old { journal = new.journal; blanks = new.blanks }
 
@@ -48,23 +49,23 @@ pub record IsPrepared (parts : Parts) (regs lane : List ℕ) (prepared : Prepare
   pub found : HasFound parts regs prepared.decision
   pub room : parts.setup.cpus < parts.journal.spare
   pub blank : HasBox parts.blanks prepared.decision
-  pub few : copied_bytes parts.journal.events + total_bytes prepared.reads ≤ 2 ^ 28
+  pub few : copied_bytes parts.journal.events + total_bytes prepared.reads ≤ parts.setup.terms.most
 
--- the entry would read so many bytes more than those that were copied so far, and more than 2^28 with them
+-- the entry would read so many bytes more than those that were copied so far, and more with them than the terms allow
 pub record IsTooMuchFor (parts : Parts) (regs lane : List ℕ) (copied more : ℕ) : Type 0 where
   pub reads : List Read
   pub decision : EntryDecision
   pub decides : IsDecidedBy parts regs lane reads decision
   pub so_far : copied ≡ copied_bytes parts.journal.events
   pub of_entry : more ≡ total_bytes reads
-  pub above : 2 ^ 28 < copied + more
+  pub above : parts.setup.terms.most < copied + more
 
--- so many bytes more fit beside those that were copied so far, or there are more than 2^28 with them. Want of memory says
--- nothing of it
-abbrev pub Fit : {A : Type 0} → ℕ → ℕ → Result A EnterRefusal → Type 0
-Fit copied more (Ok fits) = copied + more ≤ 2 ^ 28
-Fit copied more (Err (Full before read)) = (before ≡ copied) × (read ≡ more) × (2 ^ 28 < before + read)
-Fit copied more (Err Memory) = Unit {0}
+-- so many bytes more fit beside those that were copied so far, or there are more than the most with them. Want of memory
+-- says nothing of it
+abbrev pub Fit : {A : Type 0} → ℕ → ℕ → ℕ → Result A EnterRefusal → Type 0
+Fit most copied more (Ok fits) = copied + more ≤ most
+Fit most copied more (Err (Full before read)) = (before ≡ copied) × (read ≡ more) × (most < before + read)
+Fit most copied more (Err Memory) = Unit {0}
 
 -- it is prepared, or refused: want of memory says nothing of it
 abbrev pub Prepares : Parts → List ℕ → List ℕ → Result (Prepared) EnterRefusal → Type 0

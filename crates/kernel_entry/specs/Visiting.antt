@@ -23,16 +23,17 @@ coming_of visitor = record { cpu = visitor.cpu; regs = visitor.regs; steps = vis
 pub record IsInside (old new : Parts) (visitor : Visitor) (errand : Errand) (reads : List Read) : Type 0 where
   pub processors : new.processors.items
       ≡ slice_set old.processors.items visitor.cpu (Inside visitor.regs visitor.steps errand)
-  pub journal : new.journal ≡ record {
+  pub journal : new.journal ≡ record old.journal {
     events = old.journal.events ++ Entry visitor.cpu visitor.regs visitor.steps reads ∷ [];
     spare = old.journal.spare - 1;
   }
   pub stays : new ≡ record old { processors = new.processors; journal = new.journal }
 
--- its entry stands behind the events, and nothing else was booted
+-- its entry stands behind the events, which are kept or counted as before, and nothing else was booted
 pub record HasComeIn (old new : Parts) (visitor : Visitor) (reads : List Read) : Type 0 where
   pub setup : new.setup ≡ old.setup
   pub events : new.journal.events ≡ old.journal.events ++ Entry visitor.cpu visitor.regs visitor.steps reads ∷ []
+  pub keeps : new.journal.keeps ≡ old.journal.keeps
 
 -- where the parts stood for this kernel, they stand for the one after the decision
 abbrev pub StandsAfter : Parts → Parts → Visitor → model.Kernel → Decision → Type 0

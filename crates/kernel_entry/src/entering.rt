@@ -15,13 +15,13 @@ use crate::fixed::enter_fixed;
 use crate::preparing::{Prepared, prepare};
 use crate::resuming::enter_resumed;
 use crate::visitor::Visitor;
-use event_journal::Journal;
+use event_log::Log;
 use kernel_state::{Carried, Core, EnterRefusal, Parts, Work};
 use ns_ram::{Lane, Reads};
 use std::alloc::Global;
 
 /// The place that the next event gets.
-fn next_place(journal: &Journal) -> u64
+fn next_place(journal: &Log) -> u64
     ensures place { result ≡ length journal.now.events }
     ensures fits { length journal.now.events < 2 ^ 64 }
 {

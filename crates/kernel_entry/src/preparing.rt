@@ -1,5 +1,5 @@
 //! What is prepared before a processor comes in.
-ghost use Rattle.std.specs.Prelude.{◌≡◌, ◌≤◌, ◌^◌, OnOk};
+ghost use Rattle.std.specs.Prelude.{◌≡◌, ◌≤◌, OnOk};
 ghost use Rattle.event_journal.specs.Journal.{copied_bytes};
 ghost use Rattle.kernel_state.specs.Setup.{booted_with};
 ghost use Rattle.kernel_state.specs.Tables.{HasFreePages, tables_of};
@@ -12,14 +12,11 @@ use crate::carrying::total_bytes;
 use crate::deciding::{EntryDecision, decide};
 use crate::visitor::make_room;
 use base::NoMemory;
-use event_journal::Journal;
+use event_log::Log;
 use kernel_state::{Blanks, EnterRefusal, Parts};
 use ns_ram::{Lane, Reads};
 use smc_abi::Regs;
 use std::alloc::Global;
-
-/// The most bytes that all entries may have read, together.
-const MOST_BYTES: u64 = 1 << 28;
 
 /// An entry that was decided, and what it has read.
 #[derive(Drop)]
@@ -36,7 +33,7 @@ pub(crate) fn prepare(
     regs: &Regs,
     lane: &Lane,
 ) -> Result<Prepared, EnterRefusal>
-    requires few { copied_bytes parts.old.journal.events ≤ 2 ^ 28 }
+    requires few { copied_bytes parts.old.journal.events ≤ parts.old.setup.terms.most }
     requires call { ∥ CanDecide parts.old.slots regs.now.a ∥₁ }
     requires pages { HasFreePages parts.old.setup parts.old.tables }
     requires apps { HaveApps (booted_with parts.old.setup) (tables_of parts.old.tables) }
@@ -61,15 +58,15 @@ fn make_ready(
     decision: &EntryDecision,
     reads: &Reads,
 ) -> Result<(), EnterRefusal>
-    requires { copied_bytes parts.old.journal.events ≤ 2 ^ 28 }
-    ensures fit { Fit (copied_bytes parts.old.journal.events) (total_bytes reads.now) result }
+    requires { copied_bytes parts.old.journal.events ≤ parts.old.setup.terms.most }
+    ensures fit { Fit parts.old.setup.terms.most (copied_bytes parts.old.journal.events) (total_bytes reads.now) result }
     ensures boxed { OnOk result (HasBox parts.new.blanks decision.now) }
     ensures stays { parts.new ≡ record parts.old { blanks = parts.new.blanks } }
 {
     let Ok(()) = make_box(alloc, &mut parts.blanks, decision) else {
         return Err(EnterRefusal::Memory);
     };
-    fit(&parts.journal, reads)
+    fit(&parts.journal, parts.setup.terms.most, reads)
 }
 
 /// Makes a box where a call begins and none is kept.
@@ -82,16 +79,16 @@ fn make_box(alloc: Global, blanks: &mut Blanks, decision: &EntryDecision) -> Res
     }
 }
 
-/// What the entry has read, beside what all entries before it have, is not too much.
-fn fit(journal: &Journal, reads: &Reads) -> Result<(), EnterRefusal>
-    requires { copied_bytes journal.now.events ≤ 2 ^ 28 }
-    ensures { Fit (copied_bytes journal.now.events) (total_bytes reads.now) result }
+/// What the entry has read, beside what all entries before it have, is at most so much.
+fn fit(journal: &Log, most: u64, reads: &Reads) -> Result<(), EnterRefusal>
+    requires { copied_bytes journal.now.events ≤ most }
+    ensures { Fit most (copied_bytes journal.now.events) (total_bytes reads.now) result }
 {
     let Some(more) = total_bytes(reads) else {
         return Err(EnterRefusal::Memory);
     };
     let copied = journal.copied();
-    if more > MOST_BYTES - copied {
+    if more > most - copied {
         return Err(EnterRefusal::Full { copied, more });
     }
     Ok(())

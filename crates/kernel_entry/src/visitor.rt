@@ -5,7 +5,8 @@ ghost use Rattle.ns_ram.specs.Reads.{total_bytes};
 ghost use Rattle.kernel_entry.specs.Visiting.{IsInside};
 
 use base::NoMemory;
-use event_journal::{Event, Journal};
+use event_journal::Event;
+use event_log::Log;
 use kernel_state::{Errand, Parts, Processor};
 use ns_ram::Reads;
 use smc_abi::Regs;
@@ -19,8 +20,9 @@ pub struct Visitor {
 }
 
 /// Makes room for one entry, and for the exits of so many processors.
-pub fn make_room(journal: &mut Journal, cpus: u8) -> Result<(), NoMemory>
+pub fn make_room(journal: &mut Log, cpus: u8) -> Result<(), NoMemory>
     ensures events { journal.new.events ≡ journal.old.events }
+    ensures keeps { journal.new.keeps ≡ journal.old.keeps }
     ensures room { OnOk result (cpus + 1 ≤ journal.new.spare) }
     ensures kept { journal.old.spare ≤ journal.new.spare }
     ensures err { OnErr result (journal.new ≡ journal.old) }

@@ -8,7 +8,7 @@ use Rattle.kernel_state.specs.declared.parts.Parts.{Parts}
 use Rattle.kernel_state.specs.declared.processor.Errand.TheVariants.{InSlot}
 use Rattle.kernel_state.specs.declared.processor.Processor.{Processor}
 use Rattle.kernel_state.specs.declared.processor.Processor.TheVariants.{Inside}
-use Rattle.event_journal.specs.Journal.{Contents}
+use Rattle.event_log.specs.Log.{Contents}
 use Rattle.event_journal.specs.declared.event.Event.TheVariants.{Entry}
 use Rattle.new_calls.specs.Deciding.{call_with, taken_of}
 use Rattle.rpc_cont.specs.declared.cont.Cont.{Cont}
@@ -22,6 +22,7 @@ returns-clause-come c =
       setup = ap (λ (parts : Parts). parts.setup) c.let_in.ensures.stays ∙ ap (λ (parts : Parts). parts.setup) c.take_slot.ensures.stays;
       events = ap (λ (journal : Contents). journal.events) c.let_in.ensures.journal
           ∙ ap (λ (journal : Contents). journal.events ++ Entry c.args.visitor.cpu c.args.visitor.regs c.args.visitor.steps c.args.reads ∷ []) journal;
+      keeps = ap (λ (journal : Contents). journal.keeps) c.let_in.ensures.journal ∙ ap (λ (journal : Contents). journal.keeps) journal;
     }
 
 pub returns-clause-stands : goal.returns-clause-stands

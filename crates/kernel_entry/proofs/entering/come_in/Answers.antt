@@ -1,5 +1,5 @@
 use Rattle.std.proofs.Common.{ap, refl}
-use Rattle.event_journal.specs.Journal.{Contents}
+use Rattle.event_log.specs.Log.{Contents}
 use Rattle.kernel_state.specs.declared.parts.Parts.{Parts as AnyParts}
 use Rattle.kernel_entry.specs.Entering.{CanTakeSlot}
 use Rattle.kernel_entry.specs.Resuming.{CanGoOn}
@@ -10,6 +10,7 @@ pub returns-in-Answers-clause-come : goal.returns-in-Answers-clause-come
 returns-in-Answers-clause-come c = record {
   setup = ap (λ (parts : AnyParts). parts.setup) c.enter_fixed.ensures.inside.stays;
   events = ap (λ (journal : Contents). journal.events) c.enter_fixed.ensures.inside.journal;
+  keeps = ap (λ (journal : Contents). journal.keeps) c.enter_fixed.ensures.inside.journal;
 }
 
 pub returns-in-Answers-clause-stands : goal.returns-in-Answers-clause-stands

@@ -1,8 +1,8 @@
 -- What is known of the core's kernel, before and behind.
-use Rattle.std.proofs.Common.{refl}
+use Rattle.std.proofs.Common.{◌≤◌, ◌^◌, arith, refl}
 use Rattle.std.proofs.lemmas.Result.{err_from_is_err_and}
 use Rattle.kernel_entry.proofs.Arrived.{arrived_ready, arrived_replays, arrives, cpu_there, has_entered, is_refused, outside_still}
-use Rattle.kernel_entry.proofs.Entered.{can_decide, has_pages, have_apps, roomier_replays}
+use Rattle.kernel_entry.proofs.Entered.{can_decide, has_pages, have_apps, most_bounded, roomier_replays}
 use Rattle.kernel_entry.proofs.Following.{can_follow}
 use Rattle.kernel_entry.proofs.entering.enter.Goals as goal
 
@@ -32,6 +32,13 @@ come_in-call-requires-clause-cpu c =
     let mid = c.prepare.new.parts in
     let more = c.prepare.ensures.room in
     cpu_there mid c.args.visitor.cpu (roomier_replays old mid more c.args.core.now.replay) (outside_still old mid c.args.visitor.cpu more c.requires.outside)
+
+pub come_in-call-requires-clause-few : goal.come_in-call-requires-clause-few
+come_in-call-requires-clause-few c =
+    let bounded : c.prepare.new.parts.setup.terms.most ≤ 2 ^ 63 =
+    most_bounded c.prepare.new.parts (roomier_replays c.args.core.now.parts c.prepare.new.parts c.prepare.ensures.room c.args.core.now.replay) in
+    let few = c.in_ok-prepared.ensures.prepares.few in
+    omega (arith, bounded, few)
 
 pub come_in-call-requires-clause-follows : goal.come_in-call-requires-clause-follows
 come_in-call-requires-clause-follows c =

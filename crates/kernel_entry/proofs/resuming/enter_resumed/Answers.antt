@@ -1,6 +1,6 @@
 use Rattle.std.proofs.Common.{◌≡◌, ◌-◌, ℕ, List, [], ◌∷◌, ◌++◌, ap, ◌∙◌}
 use Rattle.std.specs.Prelude.{slice_set}
-use Rattle.event_journal.specs.Journal.{Contents}
+use Rattle.event_log.specs.Log.{Contents}
 use Rattle.event_journal.specs.declared.event.Event.TheVariants.{Entry}
 use Rattle.kernel_model.specs.Argument.{thread_in}
 use Rattle.kernel_model.specs.Decision.{works_on}
@@ -20,6 +20,7 @@ returns-clause-come c =
       setup = ap (λ (parts : Parts). parts.setup) c.let_in.ensures.stays ∙ ap (λ (parts : Parts). parts.setup) c.go_on-cont.ensures.stays;
       events = ap (λ (journal : Contents). journal.events) c.let_in.ensures.journal
           ∙ ap (λ (journal : Contents). journal.events ++ Entry c.args.visitor.cpu c.args.visitor.regs c.args.visitor.steps c.args.reads ∷ []) journal;
+      keeps = ap (λ (journal : Contents). journal.keeps) c.let_in.ensures.journal ∙ ap (λ (journal : Contents). journal.keeps) journal;
     }
 
 pub returns-clause-stands : goal.returns-clause-stands
