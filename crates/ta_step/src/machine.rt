@@ -75,6 +75,13 @@ impl<M: TaMemory> Machine<M> {
         self.cancelled && !self.masked
     }
 
+    /// Whether the application has masked its cancellation, as it has at its start.
+    pub fn is_masked(&self) -> bool
+        ensures { result ≡ (state_of M.bytes self.now).masked }
+    {
+        self.masked
+    }
+
     /// The request that waits for its answer, if there is one.
     pub fn asked(&self) -> Option<Request>
         ensures { result ≡ (state_of M.bytes self.now).asked }
