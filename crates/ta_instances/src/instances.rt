@@ -3,7 +3,7 @@ ghost use Rattle.std.specs.Option.{IsSomeAnd, option_copied, option_map};
 ghost use Rattle.std.specs.Str.{bytes_eq};
 ghost use Rattle.base.specs.NumberMap.{get, insert, remove};
 ghost use Rattle.ta_instances.specs.Instance.{given_back, held_by, killed, made, moved_from};
-ghost use Rattle.ta_instances.specs.Instances.{AreInstances, changed, is_free, is_held, least_with};
+ghost use Rattle.ta_instances.specs.Instances.{AreInstances, AreNumbered, changed, is_free, is_held, least_with};
 
 use crate::instance::Instance;
 use base::{NoMemory, NumberTable};
@@ -49,6 +49,15 @@ impl Instances {
         ensures instances { AreInstances self.now }
     {
         self.kept.get(u64::from(number))
+    }
+
+    /// The instances with their numbers, in rising order of the numbers.
+    pub fn entries(&self) -> &[(u64, Instance)]
+        ensures entries { result.now ≡ self.now }
+        ensures numbered { AreNumbered self.now }
+        ensures instances { AreInstances self.now }
+    {
+        self.kept.entries()
     }
 
     /// The least number of an instance of the application with this UUID, if one is kept.
