@@ -1,4 +1,4 @@
-ghost use Rattle.std.specs.Prelude.{◌≡◌, ◌+◌, [], IfOk, IfSome, IsSome, MatchOption, None, count_by, is_some};
+ghost use Rattle.std.specs.Prelude.{◌≡◌, ◌+◌, [], IfOk, IfSome, IsSome, MatchOption, None, count_by, is_some, length};
 ghost use Rattle.std.specs.Option.{option_copied};
 ghost use Rattle.base.specs.NumberMap.{get, insert, remove};
 ghost use Rattle.session_table.specs.Session.{is_of, is_opened_of, reserved_for};
@@ -85,6 +85,13 @@ impl Sessions {
         ensures { option_copied result ≡ get self.now.kept number }
     {
         self.kept.get(u64::from(number))
+    }
+
+    /// How many sessions are kept: those that are opened or being opened.
+    pub fn len(&self) -> usize
+        ensures { result ≡ length self.now.kept }
+    {
+        self.kept.len()
     }
 
     /// How many sessions the instance has.
