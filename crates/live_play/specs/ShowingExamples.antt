@@ -1,20 +1,24 @@
 -- Conversations in which lines ask, and the lines of what is kept.
 use Rattle.std.specs.Prelude.{◌≡◌, ℕ, ◌+◌, List, [], ◌∷◌, ◌++◌, Bool, true, false, codes, replicate, Option, None, Some}
 use Rattle.std.specs.List.{flat_map}
-use Rattle.job_model.specs.Job.{Job}
+use Rattle.job_model.specs.Job.{Job, Machine, Native}
 use Rattle.job_model.specs.Point.{no_params}
 use Rattle.job_model.specs.declared.call_kind.CallKind.TheVariants.{Invoke}
-use Rattle.kernel_model.specs.Kernel.{Active, Asks, Free, Instance, PendingCall, Suspended, Tables, Untold, Waits, first_tables}
+use Rattle.job_model.specs.declared.entry_point.EntryPoint.{EntryPoint}
+use Rattle.kernel_model.specs.Kernel.{Active, Asks, CallPhase, Free, Instance, PendingCall, Runs, Suspended, Tables, Untold, Waits, first_tables}
+use Rattle.native_tas.specs.declared.relation.Relation.{Relation}
 use Rattle.rpc_msgs.specs.declared.rpc.Rpc.TheVariants.{Suspend}
 use Rattle.rpc_msgs.specs.declared.rpc_buffer.RpcBuffer.{RpcBuffer}
 use Rattle.session_table.specs.Examples.{public}
 use Rattle.session_table.specs.Session.{opened_with, reserved_for}
 use Rattle.shm_registry.specs.Registered.{Registered}
+use Rattle.ta_isa.specs.declared.image.Image.{Image}
+use Rattle.ta_step.specs.State.{State}
 use Rattle.live_play.specs.Changes.{changes, text_of_changes}
 use Rattle.live_play.specs.Examples.{Turn, events_of, inputs_of, ok, on, turn, uid_told, zeros_told}
 use Rattle.live_play.specs.Panicking.{panic_line}
 use Rattle.live_play.specs.Showing.{first_position, showing}
-use Rattle.live_play.specs.State.{buffer_lines, instance_line, session_line, slot_line, state_text}
+use Rattle.live_play.specs.State.{buffer_lines, instance_line, instance_lines, masked_line, session_line, slot_line, state_text}
 
 -- a conversation in which lines may ask goes so
 abbrev pub Shows : List Turn → Type 0
@@ -43,6 +47,14 @@ waiting buffer marked = record {
   buffer = buffer;
   phase = Waits no_params;
 }
+
+-- such a call that has come so far
+abbrev pub come_to : CallPhase → PendingCall
+come_to phase = record (waiting None false) { phase = phase }
+
+-- a job of an image, with its machine masked or not
+abbrev pub with_mask : Bool → Job → Image → EntryPoint → State → Job
+with_mask masked job image point machine = record job { body = Machine image point (record machine { masked = masked }) }
 
 -- lines, each with its line feed
 abbrev pub lines_of : List (List ℕ) → List ℕ
@@ -120,11 +132,36 @@ pub record ShowingExamples : Type 0 where
       ≡ codes "slot 1 waits client 7 session 3 instance 2 buffer 40010000 000000000000001a cancelled" ++ 10 ∷ []
   pub asks : (job : Job) → slot_line 1 (Suspended 7 (record (waiting None false) { phase = Asks job (Suspend 250) [] }))
       ≡ codes "slot 1 asks client 7 session 3 instance 2 wants suspend" ++ 10 ∷ []
+  -- masks: of a call that runs or asks, as its machine is, and of no other
+  pub runs_masked : (job : Job) (image : Image) (point : EntryPoint) (machine : State) →
+      masked_line 1 (Suspended 7 (come_to (Runs (with_mask true job image point machine)))) ≡ codes "masked 1" ++ 10 ∷ []
+  pub asks_masked : (job : Job) (image : Image) (point : EntryPoint) (machine : State) →
+      masked_line 15 (Suspended 7 (come_to (Asks (with_mask true job image point machine) (Suspend 250) [])))
+      ≡ codes "masked 15" ++ 10 ∷ []
+  pub asks_unmasked : (job : Job) (image : Image) (point : EntryPoint) (machine : State) →
+      masked_line 15 (Suspended 7 (come_to (Asks (with_mask false job image point machine) (Suspend 250) []))) ≡ []
+  pub native : (job : Job) (relation : Relation) →
+      masked_line 1 (Suspended 7 (come_to (Runs (record job { body = Native relation 3 })))) ≡ []
+  pub waits : masked_line 1 (Suspended 7 (waiting None true)) ≡ []
+  pub out : (call : PendingCall) → masked_line 1 (Active 0 call) ≡ []
+  -- they stand behind all slots
+  pub behind_slots : (job : Job) (image : Image) (point : EntryPoint) (machine : State) →
+      state_text (record { cpus = 2; threads = 2; frames = 1; apps = []; key = [] })
+      (record {
+        slots = Suspended 7 (come_to (Runs (with_mask true job image point machine))) ∷ Free ∷ [];
+        processors = [];
+        tables = first_tables;
+      }) []
+      ≡ lines_of (codes "slot 0 runs client 7 session 3 instance 2" ∷ codes "slot 1 free" ∷ codes "masked 0"
+      ∷ codes "sessions 0" ∷ codes "buffers 0" ∷ codes "pages 1" ∷ codes "events 0" ∷ codes "copied 0" ∷ [])
   -- instances, and sessions
   pub held : instance_line left_behind 1 (instance false (Some 15))
       ≡ codes "instance 1 11111111-1111-1111-1111-111111111111 users 1 held 15 alive" ++ 10 ∷ []
   pub idle : instance_line left_behind 2 (instance true None)
       ≡ codes "instance 2 11111111-1111-1111-1111-111111111111 users 0 idle dead" ++ 10 ∷ []
+  pub all_kept : instance_lines (record first_tables { instances = (2, instance true None) ∷ (9, instance false (Some 0)) ∷ [] })
+      ≡ lines_of (codes "instance 2 11111111-1111-1111-1111-111111111111 users 0 idle dead"
+      ∷ codes "instance 9 11111111-1111-1111-1111-111111111111 users 0 held 0 alive" ∷ [])
   pub opening : session_line 2 (reserved_for 7 public 1) ≡ codes "session 2 client 7 instance 1 opening" ++ 10 ∷ []
   pub opened : session_line 3 (opened_with (reserved_for 0 public 1) 20) ≡ codes "session 3 client 0 instance 1 opened" ++ 10 ∷ []
   -- the session of an open that waits is kept, though its instance isn't

@@ -1,14 +1,14 @@
 -- The text of what a kernel keeps. This project's own.
-use Rattle.std.specs.Prelude.{ℕ, ◌+◌, List, [], ◌∷◌, ◌++◌, Bool, codes, count_by, length, slice_get, if◌then◌else◌, Option, None, Some, zero, suc}
+use Rattle.std.specs.Prelude.{ℕ, ◌+◌, List, [], ◌∷◌, ◌++◌, Bool, false, codes, count_by, length, slice_get, if◌then◌else◌, Option, None, Some, zero, suc}
 use Rattle.std.specs.Fmt.{decimal}
 use Rattle.std.specs.Int.{to_be_bytes, w64}
 use Rattle.std.specs.List.{flat_map}
 use Rattle.std.specs.Option.{option_map_or}
-use Rattle.base.specs.NumberMap.{get}
 use Rattle.event_journal.specs.Journal.{copied_bytes}
 use Rattle.event_journal.specs.declared.event.Event.{Event}
 use Rattle.event_journal.specs.declared.event.Event.TheVariants.{Entry, Exit}
 use Rattle.hex.specs.Hex.{encode_lower}
+use Rattle.job_model.specs.Job.{Body, Machine, Native, Nothing}
 use Rattle.kernel_model.specs.Application.{Booted}
 use Rattle.kernel_model.specs.History.{is_outside}
 use Rattle.kernel_model.specs.Instances.{free_pages}
@@ -105,6 +105,36 @@ slot_line number held = codes "slot " ++ decimal number ++ 32 ∷ slot_text held
 abbrev pub slot_lines : List ThreadSlot → List ℕ
 slot_lines slots = texts_below (length slots) (λ number. text_if (slot_line number) (slice_get slots number))
 
+-- ---- masks
+
+-- what runs is a machine whose application has its cancellation masked, as it is when an entry point begins. A native application
+-- masks nothing
+abbrev pub body_is_masked : Body → Bool
+body_is_masked (Machine image point machine) = machine.masked
+body_is_masked (Native relation func) = false
+body_is_masked Nothing = false
+
+-- of a call that runs or asks
+abbrev pub phase_is_masked : CallPhase → Bool
+phase_is_masked (Runs job) = body_is_masked job.body
+phase_is_masked (Asks job wanted payload) = body_is_masked job.body
+phase_is_masked (Waits params) = false
+phase_is_masked (Ends result params told wakes) = false
+
+-- of a call that its client is to resume. A call that a processor works on is out with it: what is kept of its phase is that of its
+-- entry, so nothing is told of its mask
+abbrev pub slot_is_masked : ThreadSlot → Bool
+slot_is_masked Free = false
+slot_is_masked (Active cpu call) = false
+slot_is_masked (Suspended client call) = phase_is_masked call.phase
+
+-- `masked SLOT`, where the slot's call runs or asks, and its application has masked its cancellation
+abbrev pub masked_line : ℕ → ThreadSlot → List ℕ
+masked_line number held = if slot_is_masked held then codes "masked " ++ decimal number ++ 10 ∷ [] else []
+
+abbrev pub masked_lines : List ThreadSlot → List ℕ
+masked_lines slots = texts_below (length slots) (λ number. text_if (masked_line number) (slice_get slots number))
+
 -- ---- processors
 
 -- `inside CPU`, where the processor is inside
@@ -136,10 +166,9 @@ instance_line tables number instance =
     ++ life_text instance.dead
     ++ 10 ∷ []
 
--- of all numbers that were given
+-- of all that are kept, which stand in rising order of their numbers
 abbrev pub instance_lines : Tables → List ℕ
-instance_lines tables =
-    texts_below tables.next_instance (λ number. text_if (instance_line tables number) (get tables.instances number))
+instance_lines tables = flat_map (λ kept. instance_line tables kept.0 kept.1) tables.instances
 
 -- ---- counts
 
@@ -162,6 +191,7 @@ count_lines boot kernel history =
 abbrev pub state_text : Booted → Kernel → List Event → List ℕ
 state_text boot kernel history =
     slot_lines kernel.slots
+    ++ masked_lines kernel.slots
     ++ inside_lines kernel.processors
     ++ instance_lines kernel.tables
     ++ count_lines boot kernel history
