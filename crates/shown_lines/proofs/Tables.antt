@@ -1,5 +1,5 @@
 -- What is told of the tables of a core is told of its kernel.
-use Rattle.std.proofs.Common.{◌≡◌, ℕ, ◌<◌, List, [], ◌∷◌, ◌++◌, length, get_or, map, Option, Some, Result, Ok, Err, refl, suc, sym, ap, subst, ◌∙◌, append_assoc, arith, inl, inr}
+use Rattle.std.proofs.Common.{◌≡◌, ℕ, ◌<◌, List, [], ◌∷◌, ◌++◌, length, get_or, map, Option, Some, Result, Ok, Err, refl, suc, sym, ap, subst, ◌∙◌, arith, inl, inr}
 use Rattle.std.proofs.Math.Logic.{∥∥₁_elim}
 use Rattle.std.proofs.Props.{props}
 use Rattle.std.proofs.lemmas.Option.{get_or_from_slice_get, slice_get-map, slice_get_cases, slice_get_read}
@@ -18,10 +18,11 @@ use Rattle.kernel_state.specs.declared.cancellation.Cancellation.{Cancellation}
 use Rattle.kernel_state.specs.declared.processor.Processor.{Processor}
 use Rattle.kernel_state.specs.declared.parts.Parts.{Parts}
 use Rattle.live_play.specs.Showing.{told_by}
-use Rattle.live_play.specs.State.{count_lines, inside_lines, instance_lines, slot_line, slot_lines, state_text, text_if, texts_below}
+use Rattle.live_play.specs.State.{count_lines, inside_lines, instance_lines, masked_lines, slot_lines, state_text, text_if, texts_below}
 use Rattle.live_text.specs.declared.question.Question.{Question}
 use Rattle.rpc_cont.specs.declared.cont.Cont.{Cont}
 use Rattle.thread_slots.specs.declared.slot.Slot.{Slot}
+use Rattle.shown_lines.proofs.Texts.{more}
 
 -- ---- slots
 
@@ -46,13 +47,14 @@ as_long (s ∷ ss) (b ∷ bs) [] are = absurd (are 0)
 as_long (s ∷ ss) (b ∷ bs) (h ∷ hs) are =
     let rest = as_long ss bs hs (λ slot. are (suc slot)) in cc
 
-pub all_slots : (slots : List HeldSlot) (besides : List Cancellation) (held : List ThreadSlot) (number : ℕ)
-    (start text : List ℕ) → number ≡ length slots → AreSlots slots besides held
-    → text ≡ start ++ texts_below number (λ number. text_if (slot_line number) (slice_get held number))
-    → text ≡ start ++ slot_lines held
-all_slots slots besides held number start text all are so_far =
+-- a line of each, or none
+pub all_slots : (line : ℕ → ThreadSlot → List ℕ) (slots : List HeldSlot) (besides : List Cancellation) (held : List ThreadSlot)
+    (number : ℕ) (start text : List ℕ) → number ≡ length slots → AreSlots slots besides held
+    → text ≡ start ++ texts_below number (λ number. text_if (line number) (slice_get held number))
+    → text ≡ start ++ texts_below (length held) (λ number. text_if (line number) (slice_get held number))
+all_slots line slots besides held number start text all are so_far =
     so_far
-    ∙ ap (λ n. start ++ texts_below n (λ number. text_if (slot_line number) (slice_get held number)))
+    ∙ ap (λ n. start ++ texts_below n (λ number. text_if (line number) (slice_get held number)))
     (all ∙ sym (as_long slots besides held are))
 
 -- ---- processors
@@ -72,20 +74,21 @@ inside_there processors cpu none below =
 -- ---- all of it
 
 pub state_told : {E : Type 0} (result : Result (Unit {0}) E) (boot : Booted) (kernel : Kernel) (events : List Event)
-    (start slots insides instances all : List ℕ) → slots ≡ start ++ slot_lines kernel.slots
-    → insides ≡ slots ++ inside_lines kernel.processors → instances ≡ insides ++ instance_lines kernel.tables
+    (start slots masks insides instances all : List ℕ) → slots ≡ start ++ slot_lines kernel.slots
+    → masks ≡ slots ++ masked_lines kernel.slots
+    → insides ≡ masks ++ inside_lines kernel.processors → instances ≡ insides ++ instance_lines kernel.tables
     → OnOk result (all ≡ instances ++ count_lines boot kernel events)
     → OnOk result (all ≡ start ++ state_text boot kernel events)
-state_told (Ok done) boot kernel events start slots insides instances all one two three four =
+state_told (Ok done) boot kernel events start slots masks insides instances all one two three four five =
     let a : List ℕ = slot_lines kernel.slots in
-    let b : List ℕ = inside_lines kernel.processors in
-    let d : List ℕ = instance_lines kernel.tables in
-    let e : List ℕ = count_lines boot kernel events in
-    four
-    ∙ ap (λ (l : List ℕ). l ++ e) (three ∙ ap (λ (l : List ℕ). l ++ d) (two ∙ ap (λ (l : List ℕ). l ++ b) one
-    ∙ append_assoc start a b) ∙ append_assoc start (a ++ b) d)
-    ∙ append_assoc start (a ++ b ++ d) e
-state_told (Err fault) boot kernel events start slots insides instances all one two three four = tt
+    let b : List ℕ = masked_lines kernel.slots in
+    let d : List ℕ = inside_lines kernel.processors in
+    let e : List ℕ = instance_lines kernel.tables in
+    let f : List ℕ = count_lines boot kernel events in
+    more start (a ++ b ++ d ++ e) instances f all
+    (more start (a ++ b ++ d) insides e instances (more start (a ++ b) masks d insides (more start a slots b masks one two) three) four)
+    five
+state_told (Err fault) boot kernel events start slots masks insides instances all one two three four five = tt
 
 -- each core has a kernel
 pub kernel_told : {E : Type 0} (result : Result (Unit {0}) E) (parts : Parts) (question : Question) (old new : List ℕ)

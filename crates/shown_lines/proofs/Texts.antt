@@ -1,8 +1,10 @@
 -- Texts to which a line more is appended.
-use Rattle.std.proofs.Common.{◌≡◌, ℕ, ◌+◌, ◌-◌, ◌*◌, ◌<◌, ◌≤◌, false, List, [], ◌∷◌, ◌++◌, take, drop, get_or, Option, Some, None, refl, suc, sym, ap, ap₂, ◌∙◌, append_assoc, append-nil, arith, inl, inr}
+use Rattle.std.proofs.Common.{◌≡◌, ℕ, ◌+◌, ◌-◌, ◌*◌, ◌<◌, ◌≤◌, false, List, [], ◌∷◌, ◌++◌, length, take, drop, get_or, Option, Some, None, refl, suc, sym, ap, ap₂, ◌∙◌, append_assoc, append-nil, arith, inl, inr}
 use Rattle.std.specs.Prelude.{OnOk, Result, Ok, Err, codes, slice_get}
 use Rattle.std.specs.Fmt.{decimal}
+use Rattle.std.specs.List.{flat_map}
 use Rattle.std.specs.Str.{bytes_eq}
+use Rattle.std.proofs.lemmas.List.{flat_map_more, take_more}
 use Rattle.std.proofs.lemmas.List.Sums.{get_or-le-sum_by}
 use Rattle.std.proofs.lemmas.Option.{slice_get_cases}
 use Rattle.event_journal.specs.Event.{copied_by}
@@ -48,6 +50,17 @@ texts_more number text start old new so_far more =
     ∙ ap (λ (l : List ℕ). l ++ text number) so_far
     ∙ append_assoc start (texts_below number text) (text number)
     ∙ ap (λ n. start ++ texts_below n text) (sym next)
+
+-- an element more
+pub told_more : {X : Type 0} (line : X → List ℕ) (xs : List X) (i : ℕ) (x d : X) (start old new : List ℕ)
+    → i < length xs → x ≡ get_or xs i d → old ≡ start ++ flat_map line (take i xs) → new ≡ old ++ line x
+    → new ≡ start ++ flat_map line (take (i + 1) xs)
+told_more {X} line xs i x d start old new below is so_far told =
+    told
+    ∙ ap (λ (l : List ℕ). l ++ line x) so_far
+    ∙ ap (λ (y : X). (start ++ flat_map line (take i xs)) ++ line y) is
+    ∙ flat_map_more line start (take i xs) (get_or xs i d)
+    ∙ ap (λ (l : List X). start ++ flat_map line l) (sym (take_more xs i d below))
 
 -- ---- the pages of a buffer
 
@@ -119,7 +132,7 @@ changed_block (Err fault) cpu number len before after old new all other told = t
 -- ---- instances
 
 -- behind what stands there already
-more : (t0 a t b t1 : List ℕ) → t ≡ t0 ++ a → t1 ≡ t ++ b → t1 ≡ t0 ++ (a ++ b)
+pub more : (t0 a t b t1 : List ℕ) → t ≡ t0 ++ a → t1 ≡ t ++ b → t1 ≡ t0 ++ (a ++ b)
 more t0 a t b t1 one two = two ∙ ap (λ (l : List ℕ). l ++ b) one ∙ append_assoc t0 a b
 
 pub instance_told : (tables : Tables) (number : ℕ) (instance : Instance) (users : ℕ) (t0 t1 t2 t3 t4 t5 t6 : List ℕ)

@@ -1,14 +1,12 @@
 //! The instances of applications, and counts.
 
-ghost use Rattle.std.specs.Prelude.{◌≡◌, ◌∷◌, ◌++◌, OnOk, length};
-ghost use Rattle.base.specs.NumberMap.{get};
-ghost use Rattle.kernel_state.specs.Replay.{Replays};
+ghost use Rattle.std.specs.Prelude.{◌≡◌, ◌∷◌, ◌++◌, OnOk};
 ghost use Rattle.kernel_state.specs.Tables.{instance_of, tables_of};
 ghost use Rattle.uuid.specs.Text.{hyphenated_text};
-ghost use Rattle.live_play.specs.State.{count_line, holder_text, instance_line, instance_lines, life_text, text_if};
+ghost use Rattle.live_play.specs.State.{count_line, holder_text, instance_line, instance_lines, life_text};
 
 use answer_lines::push_numbered;
-use kernel_state::{Parts, Tables};
+use kernel_state::Tables;
 use std::alloc::AllocError;
 use ta_instances::Instance;
 use uuid::Uuid;
@@ -62,38 +60,15 @@ fn push_instance(
     Ok(())
 }
 
-/// Appends the line of the instance of this number, where it is kept.
-fn push_instance_at(text: &mut Vec<u8>, tables: &Tables, number: u32) -> Result<(), AllocError>
-    ensures { OnOk result (text.new.items ≡ text.old.items
-        ++ text_if (instance_line (tables_of tables.now) number) (get (tables_of tables.now).instances number)) }
-{
-    match tables.instances.get(number) {
-        Some(instance) => push_instance(text, tables, number, instance),
-        None => Ok(()),
-    }
-}
-
-/// Appends the lines of all instances. The work grows with the number of instances that were ever made.
+/// Appends the lines of all instances that are kept, in rising order of their numbers.
 pub(crate) fn push_instances(text: &mut Vec<u8>, tables: &Tables) -> Result<(), AllocError>
     ensures { OnOk result (text.new.items ≡ text.old.items ++ instance_lines (tables_of tables.now)) }
 {
-    for number in 0..u64::from(tables.instances_made) + 1 {
-        push_instance_at(text, tables, number as u32)?;
+    let kept = tables.instances.entries();
+    for entry in kept {
+        push_instance(text, tables, entry.0 as u32, &entry.1)?;
     }
     Ok(())
-}
-
-/// How many sessions are kept. Each is one of an instance whose number was given, though that may be kept no longer: the session
-/// of an open that waits outlasts its instance.
-pub(crate) fn session_count(parts: &Parts) -> u64
-    ensures { (so : Replays parts.now) → result ≡ length so.kernel.tables.sessions }
-{
-    let tables = &parts.tables;
-    let mut count = 0u64;
-    for number in 0..u64::from(tables.instances_made) + 1 {
-        count += u64::from(tables.sessions.users(number as u32).all);
-    }
-    count
 }
 
 /// Appends a line of a word and a number.

@@ -12,6 +12,7 @@ mod changes;
 mod digits;
 mod events;
 mod instances;
+mod masks;
 mod panics;
 mod processors;
 mod shown;

@@ -11,7 +11,8 @@ ghost use Rattle.live_play.specs.State.{count_lines, state_text};
 
 use crate::buffers::{push_registered, push_session};
 use crate::events::push_events;
-use crate::instances::{push_count, push_instances, session_count};
+use crate::instances::{push_count, push_instances};
+use crate::masks::push_masks;
 use crate::processors::push_insides;
 use crate::slots::push_slots;
 use kernel_state::{Core, Parts};
@@ -23,7 +24,7 @@ fn push_counts(text: &mut Vec<u8>, parts: &Parts) -> Result<(), AllocError>
     ensures { (so : Replays parts.now) → OnOk result (text.new.items
         ≡ text.old.items ++ count_lines (booted_with parts.now.setup) so.kernel parts.now.journal.events) }
 {
-    push_count(text, b"sessions", session_count(parts))?;
+    push_count(text, b"sessions", parts.tables.sessions.len() as u64)?;
     push_count(text, b"buffers", parts.tables.registry.len() as u64)?;
     push_count(text, b"pages", u64::from(parts.tables.pool.free()))?;
     push_count(text, b"events", parts.journal.len())?;
@@ -41,6 +42,7 @@ fn push_state(alloc: Global, text: &mut Vec<u8>, parts: &Parts) -> Result<(), Al
         parts.slots.as_slice(),
         parts.cancellations.as_slice(),
     )?;
+    push_masks(text, parts.slots.as_slice())?;
     push_insides(text, parts.processors.as_slice())?;
     push_instances(text, &parts.tables)?;
     push_counts(text, parts)

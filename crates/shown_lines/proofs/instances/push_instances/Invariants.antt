@@ -1,10 +1,10 @@
-use Rattle.std.proofs.Common.{◌≡◌, ◌++◌}
-use Rattle.base.specs.NumberMap.{get}
-use Rattle.kernel_state.specs.Tables.{tables_of}
-use Rattle.live_play.specs.State.{instance_line, text_if, texts_below}
+use Rattle.std.proofs.Common.{◌≡◌, ◌++◌, take}
+use Rattle.std.specs.List.{flat_map}
+use Rattle.kernel_state.specs.Tables.{instance_of, tables_of}
+use Rattle.live_play.specs.State.{instance_line}
 use Rattle.shown_lines.proofs.instances.push_instances.Given as goal
 
-abbrev pub invariant-loop-number : goal.invariant-loop-number
-invariant-loop-number l =
+abbrev pub invariant-loop-entry : goal.invariant-loop-entry
+invariant-loop-entry l =
     l.text.items ≡ l.initial.text.items
-    ++ texts_below l.number (λ number. text_if (instance_line (tables_of l.tables) number) (get (tables_of l.tables).instances number))
+    ++ flat_map (λ kept. instance_line (tables_of l.tables) kept.0 (instance_of kept.1)) (take l.entry-index l.kept)

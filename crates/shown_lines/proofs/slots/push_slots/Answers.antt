@@ -18,4 +18,4 @@ loop-number-preserved c = λ held are.
     c.index-slots-number.is are))
 
 pub returns : goal.returns
-returns c = λ held are. all_slots c.args.slots.now c.args.besides.now held c.loop-number.number _ _ (omega (arith, c.loop-number-test.false, c.loop-number.auto.number-end)) are (c.loop-number.invariant held are)
+returns c = λ held are. all_slots slot_line c.args.slots.now c.args.besides.now held c.loop-number.number _ _ (omega (arith, c.loop-number-test.false, c.loop-number.auto.number-end)) are (c.loop-number.invariant held are)
