@@ -1,8 +1,9 @@
 -- Lines that ask: their rules, in the order in which a fault is looked for, and what they ask. They are no lines of a trace, and
 -- none of a trace begins with their words. This project's own.
-use Rattle.std.specs.Prelude.{ℕ, List, [], ◌∷◌, codes, Bool, ◌||◌, nat_lt, if◌then◌else◌, Option, None, Some, Result}
+use Rattle.std.specs.Prelude.{ℕ, List, [], ◌∷◌, codes, Bool, ◌||◌, nat_lt, not, if◌then◌else◌, Option, None, Some, Result}
 use Rattle.std.specs.List.{list_all}
 use Rattle.std.specs.Str.{bytes_eq}
+use Rattle.live_text.specs.Scene.{LiveScene}
 use Rattle.live_text.specs.declared.question.Question.{Question}
 use Rattle.live_text.specs.declared.question.Question.TheVariants as asks
 use Rattle.live_text.specs.declared.question.QuestionKind.{QuestionKind}
@@ -46,22 +47,23 @@ kind_of_line line = kind_asked (word (words_of line) 0)
 abbrev pub is_switch : List ℕ → Bool
 is_switch word = bytes_eq word (codes "on") || bytes_eq word (codes "off")
 
--- of a line of this kind, given whether a boot stands before it. `watch` may stand anywhere, and what `watch` is to be is a
--- part of its name
-abbrev pub rules_of : QuestionKind → Bool → List (List ℕ) → List (BadKind × Bool)
-rules_of word_of.Watch booted ws = (bad.Item, is_switch (word ws 1)) ∷ (bad.Count, counts 1 ws) ∷ []
-rules_of word_of.State booted ws = (bad.Count, counts 0 ws) ∷ (bad.Place, booted) ∷ []
-rules_of word_of.Session booted ws =
+-- of a line of this kind in a scene. `watch` may stand anywhere, and what `watch` is to be is a part of its name. Events are
+-- told where history is kept
+abbrev pub rules_of : QuestionKind → LiveScene → List (List ℕ) → List (BadKind × Bool)
+rules_of word_of.Watch scene ws = (bad.Item, is_switch (word ws 1)) ∷ (bad.Count, counts 1 ws) ∷ []
+rules_of word_of.State scene ws = (bad.Count, counts 0 ws) ∷ (bad.Place, scene.lines.is_booted) ∷ []
+rules_of word_of.Session scene ws =
     (bad.Count, counts 1 ws)
-    ∷ (bad.Place, booted)
+    ∷ (bad.Place, scene.lines.is_booted)
     ∷ (bad.Number, is_decimal (word ws 1))
     ∷ (bad.Range, nat_lt (decimal (word ws 1)) 4294967295)
     ∷ []
-rules_of word_of.Buffer booted ws =
-    (bad.Count, counts 1 ws) ∷ (bad.Place, booted) ∷ (bad.Number, is_hexadecimal 16 (word ws 1)) ∷ []
-rules_of word_of.Events booted ws =
+rules_of word_of.Buffer scene ws =
+    (bad.Count, counts 1 ws) ∷ (bad.Place, scene.lines.is_booted) ∷ (bad.Number, is_hexadecimal 16 (word ws 1)) ∷ []
+rules_of word_of.Events scene ws =
     (bad.Count, counts 2 ws)
-    ∷ (bad.Place, booted)
+    ∷ (bad.Place, scene.lines.is_booted)
+    ∷ (bad.Place, not scene.forgets)
     ∷ (bad.Number, is_decimal (word ws 1))
     ∷ (bad.Number, is_decimal (word ws 2))
     ∷ (bad.Range, nat_lt (decimal (word ws 1)) 4294967295)
@@ -69,8 +71,8 @@ rules_of word_of.Events booted ws =
     ∷ []
 
 -- of the whole line
-abbrev pub question_rules : QuestionKind → Bool → List ℕ → List (BadKind × Bool)
-question_rules kind booted line = (bad.Byte, list_all is_text_byte line) ∷ rules_of kind booted (words_of line)
+abbrev pub question_rules : QuestionKind → LiveScene → List ℕ → List (BadKind × Bool)
+question_rules kind scene line = (bad.Byte, list_all is_text_byte line) ∷ rules_of kind scene (words_of line)
 
 -- ---- what is asked
 
@@ -82,10 +84,10 @@ question_of word_of.Buffer ws = asks.Buffer (hexadecimal (word ws 1))
 question_of word_of.Events ws = asks.Events (decimal (word ws 1)) (decimal (word ws 2))
 
 -- a line that asks was judged: it keeps its rules, and asks this; or this is the first one that it breaks
-abbrev pub IsAskedAs : Option QuestionKind → Bool → List ℕ → Result Question LineFault → Type 0
-IsAskedAs None booted line judged = ⊥
-IsAskedAs (Some kind) booted line judged =
-    Judged (λ (asked : Question). asked) judged (question_rules kind booted line) (question_of kind (words_of line))
+abbrev pub IsAskedAs : Option QuestionKind → LiveScene → List ℕ → Result Question LineFault → Type 0
+IsAskedAs None scene line judged = ⊥
+IsAskedAs (Some kind) scene line judged =
+    Judged (λ (asked : Question). asked) judged (question_rules kind scene line) (question_of kind (words_of line))
 
-abbrev pub IsAsked : Bool → List ℕ → Result Question LineFault → Type 0
-IsAsked booted line judged = IsAskedAs (kind_of_line line) booted line judged
+abbrev pub IsAsked : LiveScene → List ℕ → Result Question LineFault → Type 0
+IsAsked scene line judged = IsAskedAs (kind_of_line line) scene line judged

@@ -1,7 +1,7 @@
+pub mod Rules
 pub mod Scene
 pub mod Statement
 pub mod Asking
-pub mod Building
 pub mod Sound
 pub mod Examples
 pub mod AskingExamples

@@ -2,6 +2,7 @@ pub mod Fault
 pub mod Reading
 pub mod Forms
 pub mod Limits
+pub mod Statement
 pub mod Rules
 pub mod Grammar
 pub mod Sound

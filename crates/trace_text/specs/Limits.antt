@@ -1,6 +1,6 @@
 -- What the text and the bytes of a trace have in common: what the lines or records before have set, the limits of what one
 -- says, and what it adds to the trace. This project's own.
-use Rattle.std.specs.Prelude.{ℕ, ◌+◌, List, [], ◌∷◌, ◌++◌, length, replicate, slice_index_or, slice_set, ◌==◌, nat_lt, nat_le, Bool, true, false, ◌&&◌, ◌||◌, not, if◌then◌else◌, Option, None, Some, is_none, is_some}
+use Rattle.std.specs.Prelude.{ℕ, ◌+◌, List, [], ◌∷◌, ◌++◌, length, map, replicate, slice_index_or, slice_set, ◌==◌, nat_lt, nat_le, Bool, true, false, ◌&&◌, ◌||◌, not, if◌then◌else◌, Option, None, Some, is_none, is_some}
 use Rattle.std.specs.List.{fold, list_any}
 use Rattle.std.specs.Str.{bytes_eq}
 use Rattle.ta_isa.specs.declared.boot.App.{App}
@@ -25,6 +25,20 @@ pub record Front : Type 0 where
 -- the trace of all of them
 abbrev pub trace_in : Front → Trace
 trace_in front = record { boot = front.boot; fills = front.fills; items = front.items }
+
+-- what of it the rules of the next one look at
+pub record SceneState : Type 0 where
+  -- a boot stands, with so many processors
+  pub is_booted : Bool
+  pub cpus : ℕ
+  -- the UUIDs of the applications in images
+  pub apps : List (List ℕ)
+  -- a key stands
+  pub keyed : Bool
+  -- what else a boot is given may follow
+  pub is_open : Bool
+  -- which processors are inside
+  pub inside : List Bool
 
 -- ---- rules
 
@@ -52,6 +66,9 @@ abbrev pub apps_of : Option Boot → List App
 apps_of None = []
 apps_of (Some boot) = boot.apps
 
+abbrev pub uuids_of : List App → List (List ℕ)
+uuids_of apps = map (λ (app : App). app.uuid) apps
+
 -- no item stands yet
 abbrev pub has_no_item : List Item → Bool
 has_no_item [] = true
@@ -75,13 +92,28 @@ inside_after items = fold moved outside items
 abbrev pub is_inside : List Item → ℕ → Bool
 is_inside items cpu = slice_index_or (inside_after items) cpu false
 
+-- the scene of a trace: an item closes what a boot is given
+abbrev pub scene_of : Front → SceneState
+scene_of front = record {
+  is_booted = is_some front.boot;
+  cpus = cpus_of front.boot;
+  apps = uuids_of (apps_of front.boot);
+  keyed = front.keyed;
+  is_open = has_no_item front.items;
+  inside = inside_after front.items;
+}
+
+-- before the first line or record
+abbrev pub first_scene : SceneState
+first_scene = record { is_booted = false; cpus = 0; apps = []; keyed = false; is_open = true; inside = outside }
+
 -- the fault at the end of a trace, behind all that it is read from
 abbrev pub end_fault : Front → Option BadKind
 end_fault before = if list_any (λ inside. inside) (inside_after before.items) then Some bad.Unended else None
 
 -- some application, in an image or built in, has this UUID
-unfoldable pub is_known : List (List ℕ) → List App → List ℕ → Bool
-is_known natives apps id = list_any (λ app. bytes_eq app.uuid id) apps || list_any (λ native. bytes_eq native id) natives
+unfoldable pub is_known : List (List ℕ) → List (List ℕ) → List ℕ → Bool
+is_known natives apps id = list_any (λ app. bytes_eq app id) apps || list_any (λ native. bytes_eq native id) natives
 
 -- ---- limits, in the order in which they are looked at
 
@@ -104,8 +136,8 @@ boot_limits cpus threads frames =
     ∷ (bad.Range, is_within 1 1024 frames)
     ∷ []
 
--- of an application in an image, behind these
-abbrev pub app_limits : List (List ℕ) → List App → List ℕ → List ℕ → List (BadKind × Bool)
+-- of an application in an image, behind those of these UUIDs
+abbrev pub app_limits : List (List ℕ) → List (List ℕ) → List ℕ → List ℕ → List (BadKind × Bool)
 app_limits natives apps id image =
     (bad.Range, nat_lt (length apps) 16)
     ∷ (bad.Repeat, not (is_known natives apps id))
@@ -113,9 +145,8 @@ app_limits natives apps id image =
     ∷ []
 
 -- a key stands behind the boot, before all items, and once
-abbrev pub key_place : Front → List (BadKind × Bool)
-key_place before =
-    (bad.Place, is_some before.boot) ∷ (bad.Place, has_no_item before.items) ∷ (bad.Place, not before.keyed) ∷ []
+abbrev pub key_place : SceneState → List (BadKind × Bool)
+key_place scene = (bad.Place, scene.is_booted) ∷ (bad.Place, scene.is_open) ∷ (bad.Place, not scene.keyed) ∷ []
 
 -- of a key of so many bytes
 abbrev pub key_limits : ℕ → List (BadKind × Bool)
@@ -141,13 +172,13 @@ write_limits cpus cpu addr len = (bad.Range, lies_in_ram addr len) ∷ cpu_limit
 abbrev pub show_limits : ℕ → ℕ → ℕ → ℕ → List (BadKind × Bool)
 show_limits cpus cpu addr len = (bad.Range, is_within 1 4096 len) ∷ (bad.Range, lies_in_ram addr len) ∷ cpu_limits cpus cpu
 
--- a processor that enters is outside
-abbrev pub comes_in : List Item → ℕ → List (BadKind × Bool)
-comes_in items cpu = (bad.Inside, not (is_inside items cpu)) ∷ []
+-- a processor that enters is outside, where these are inside
+abbrev pub comes_in : List Bool → ℕ → List (BadKind × Bool)
+comes_in inside cpu = (bad.Inside, not (slice_index_or inside cpu false)) ∷ []
 
 -- and one that leaves is inside
-abbrev pub goes_out : List Item → ℕ → List (BadKind × Bool)
-goes_out items cpu = (bad.Inside, is_inside items cpu) ∷ []
+abbrev pub goes_out : List Bool → ℕ → List (BadKind × Bool)
+goes_out inside cpu = (bad.Inside, slice_index_or inside cpu false) ∷ []
 
 -- ---- what is added to a trace
 

@@ -1,21 +1,24 @@
--- The rules of a line, in the order in which a fault is looked for, and what a line adds to a trace. Both
--- look at the line as a whole, and at the trace that the lines before it spell.
-use Rattle.std.specs.Prelude.{ℕ, ◌+◌, List, [], ◌∷◌, ◌++◌, codes, drop, length, map, slice_index_or, nat_lt, nat_le, Bool, false, ◌&&◌, ◌==◌, if◌then◌else◌, Option, None, Some, is_none, is_some}
+-- The rules of a line, in the order in which a fault is looked for, and what a line says. The rules look at the line as a whole
+-- and at the scene of the lines before it; what it says it says by itself.
+use Rattle.std.specs.Prelude.{ℕ, ◌+◌, List, [], ◌∷◌, ◌++◌, codes, drop, length, map, slice_index_or, nat_lt, nat_le, Bool, false, ◌&&◌, not, ◌==◌, if◌then◌else◌, Option, None, Some}
 use Rattle.std.specs.List.{list_all}
 use Rattle.std.specs.Str.{bytes_eq}
 use Rattle.ta_isa.specs.declared.boot.App.{App}
-use Rattle.ta_isa.specs.declared.boot.Boot.{Boot}
 use Rattle.ta_isa.specs.Reading.{image_of}
 use Rattle.trace_text.specs.declared.fault.BadKind.{BadKind}
 use Rattle.trace_text.specs.declared.fault.BadKind.TheVariants as bad
 use Rattle.trace_text.specs.declared.item.Item.TheVariants as item
+use Rattle.trace_text.specs.declared.limits.Size.{Size}
 use Rattle.trace_text.specs.declared.line_kind.LineKind.{LineKind}
 use Rattle.trace_text.specs.declared.line_kind.LineKind.TheVariants as kind
+use Rattle.trace_text.specs.declared.statement.Statement.{Statement}
+use Rattle.trace_text.specs.declared.statement.Statement.TheVariants as says
 use Rattle.trace_text.specs.declared.trace.Fill.{Fill}
-use Rattle.trace_text.specs.Limits.{Front, key_limits, key_place, keyed_with, no_key, app_limits, apps_of, boot_limits, call_limits, comes_in, cpu_limits, cpus_of, fill_limits, goes_out, has_no_item, show_limits, with_app, with_item, write_limits}
+use Rattle.trace_text.specs.Limits.{Front, SceneState, app_limits, boot_limits, call_limits, comes_in, cpu_limits, fill_limits, goes_out, key_limits, key_place, scene_of, show_limits, write_limits}
 use Rattle.trace_text.specs.Forms.{is_decimal, decimal, is_hexadecimal, hexadecimal, is_register, register, is_uuid, uuid, is_hex, bytes}
 use Rattle.text_lines.specs.Lines.{is_skipped}
 use Rattle.text_lines.specs.Words.{words_of}
+use Rattle.trace_text.specs.Statement.{with_statement}
 
 -- ---- what a line is told by
 
@@ -62,7 +65,7 @@ boot_rules cpus threads frames =
     ∷ (bad.Number, is_decimal frames)
     ∷ boot_limits (decimal cpus) (decimal threads) (decimal frames)
 
-abbrev pub ta_rules : List (List ℕ) → List App → List ℕ → List ℕ → List (BadKind × Bool)
+abbrev pub ta_rules : List (List ℕ) → List (List ℕ) → List ℕ → List ℕ → List (BadKind × Bool)
 ta_rules natives apps id image =
     (bad.Uuid, is_uuid id)
     ∷ (bad.Hex, is_hex image)
@@ -104,34 +107,34 @@ show_rules cpus cpu addr len =
     ∷ show_limits cpus (decimal cpu) (hexadecimal addr) (decimal len)
 
 -- of `smc` and `enter`: a processor that is outside comes in
-abbrev pub entry_rules : Front → List ℕ → List ℕ → List (List ℕ) → List (BadKind × Bool)
-entry_rules before cpu steps regs =
-    (bad.Place, is_some before.boot) ∷ call_rules (cpus_of before.boot) cpu steps regs ++ comes_in before.items (decimal cpu)
+abbrev pub entry_rules : SceneState → List ℕ → List ℕ → List (List ℕ) → List (BadKind × Bool)
+entry_rules scene cpu steps regs =
+    (bad.Place, scene.is_booted) ∷ call_rules scene.cpus cpu steps regs ++ comes_in scene.inside (decimal cpu)
 
 -- a word by its number, behind the first one
 abbrev pub word : List (List ℕ) → ℕ → List ℕ
 word words n = slice_index_or words n []
 
--- where a line of this kind may stand, and then the rules of its words
-unfoldable pub rules_behind : LineKind → List (List ℕ) → Front → List (List ℕ) → List (BadKind × Bool)
-rules_behind kind.Boot natives before ws = (bad.Place, is_none before.boot) ∷ boot_rules (word ws 0) (word ws 1) (word ws 2)
-rules_behind kind.Ta natives before ws =
-    (bad.Place, is_some before.boot) ∷ (bad.Place, has_no_item before.items) ∷ ta_rules natives (apps_of before.boot) (word ws 0) (word ws 1)
-rules_behind kind.Mem natives before ws = (bad.Place, is_some before.boot) ∷ (bad.Place, has_no_item before.items) ∷ mem_rules (word ws 0) (word ws 1)
-rules_behind kind.Key natives before ws = key_place before ++ key_rules (word ws 0)
-rules_behind kind.Smc natives before ws = entry_rules before (word ws 0) (word ws 1) (drop 2 ws)
-rules_behind kind.Enter natives before ws = entry_rules before (word ws 0) (word ws 1) (drop 2 ws)
-rules_behind kind.Leave natives before ws = (bad.Place, is_some before.boot) ∷ cpu_rules (cpus_of before.boot) (word ws 0) ++ goes_out before.items (decimal (word ws 0))
-rules_behind kind.Write natives before ws = (bad.Place, is_some before.boot) ∷ write_rules (cpus_of before.boot) (word ws 0) (word ws 1) (word ws 2)
-rules_behind kind.Show natives before ws = (bad.Place, is_some before.boot) ∷ show_rules (cpus_of before.boot) (word ws 0) (word ws 1) (word ws 2)
+-- where a line of this kind may stand in a scene, and then the rules of its words
+abbrev pub rules_in : LineKind → List (List ℕ) → SceneState → List (List ℕ) → List (BadKind × Bool)
+rules_in kind.Boot natives scene ws = (bad.Place, not scene.is_booted) ∷ boot_rules (word ws 0) (word ws 1) (word ws 2)
+rules_in kind.Ta natives scene ws =
+    (bad.Place, scene.is_booted) ∷ (bad.Place, scene.is_open) ∷ ta_rules natives scene.apps (word ws 0) (word ws 1)
+rules_in kind.Mem natives scene ws = (bad.Place, scene.is_booted) ∷ (bad.Place, scene.is_open) ∷ mem_rules (word ws 0) (word ws 1)
+rules_in kind.Key natives scene ws = key_place scene ++ key_rules (word ws 0)
+rules_in kind.Smc natives scene ws = entry_rules scene (word ws 0) (word ws 1) (drop 2 ws)
+rules_in kind.Enter natives scene ws = entry_rules scene (word ws 0) (word ws 1) (drop 2 ws)
+rules_in kind.Leave natives scene ws = (bad.Place, scene.is_booted) ∷ cpu_rules scene.cpus (word ws 0) ++ goes_out scene.inside (decimal (word ws 0))
+rules_in kind.Write natives scene ws = (bad.Place, scene.is_booted) ∷ write_rules scene.cpus (word ws 0) (word ws 1) (word ws 2)
+rules_in kind.Show natives scene ws = (bad.Place, scene.is_booted) ∷ show_rules scene.cpus (word ws 0) (word ws 1) (word ws 2)
 
 -- as many words as the kind has, and none of them empty
 unfoldable pub counts : ℕ → List (List ℕ) → Bool
 counts behind words = (length words == behind + 1) && list_all (λ w. nat_lt 0 (length w)) words
 
-abbrev pub rules_of_kind : Option LineKind → List (List ℕ) → Front → List (List ℕ) → List (BadKind × Bool)
-rules_of_kind None natives before words = (bad.Item, false) ∷ []
-rules_of_kind (Some kind) natives before words = (bad.Count, counts (words_behind kind) words) ∷ rules_behind kind natives before (drop 1 words)
+abbrev pub rules_of_words : Option LineKind → List (List ℕ) → SceneState → List (List ℕ) → List (BadKind × Bool)
+rules_of_words None natives scene words = (bad.Item, false) ∷ []
+rules_of_words (Some kind) natives scene words = (bad.Count, counts (words_behind kind) words) ∷ rules_in kind natives scene (drop 1 words)
 
 -- ---- whole lines
 
@@ -139,34 +142,56 @@ rules_of_kind (Some kind) natives before words = (bad.Count, counts (words_behin
 abbrev pub is_text_byte : ℕ → Bool
 is_text_byte byte = nat_le 32 byte && nat_le byte 126
 
--- the rules of a line, given whether a line feed ends it
-unfoldable pub line_rules : List (List ℕ) → Front → Bool → List ℕ → List (BadKind × Bool)
-line_rules natives before ended line =
+-- the rules of a line in a scene, given whether a line feed ends it
+abbrev pub rules_at : List (List ℕ) → SceneState → Bool → List ℕ → List (BadKind × Bool)
+rules_at natives scene ended line =
     (bad.Byte, list_all is_text_byte line)
     ∷ (bad.Cut, ended)
-    ∷ (if is_skipped line then [] else rules_of_kind (kind_named (word (words_of line) 0)) natives before (words_of line))
+    ∷ (if is_skipped line then [] else rules_of_words (kind_named (word (words_of line) 0)) natives scene (words_of line))
 
--- ---- what a line that keeps its rules adds
+-- ---- behind the trace so far
+
+unfoldable pub rules_behind : LineKind → List (List ℕ) → Front → List (List ℕ) → List (BadKind × Bool)
+rules_behind kind natives before ws = rules_in kind natives (scene_of before) ws
+
+abbrev pub rules_of_kind : Option LineKind → List (List ℕ) → Front → List (List ℕ) → List (BadKind × Bool)
+rules_of_kind named natives before words = rules_of_words named natives (scene_of before) words
+
+unfoldable pub line_rules : List (List ℕ) → Front → Bool → List ℕ → List (BadKind × Bool)
+line_rules natives before ended line = rules_at natives (scene_of before) ended line
+
+-- ---- what a line that keeps its rules says, and what that adds
 
 abbrev pub app_of : List ℕ → List ℕ → App
 app_of id image = record { uuid = uuid id; image = image_of (bytes image) }
 
-abbrev pub boot_of : List ℕ → List ℕ → List ℕ → Boot
-boot_of cpus threads frames = record { cpus = decimal cpus; threads = decimal threads; frames = decimal frames; apps = []; key = no_key }
+abbrev pub size_of : List ℕ → List ℕ → List ℕ → Size
+size_of cpus threads frames = record { cpus = decimal cpus; threads = decimal threads; frames = decimal frames }
 
 abbrev pub fill_of : List ℕ → List ℕ → Fill
 fill_of addr hex = record { addr = hexadecimal addr; bytes = bytes hex }
 
+abbrev pub said_by : LineKind → List (List ℕ) → Statement
+said_by kind.Boot ws = says.Boot (size_of (word ws 0) (word ws 1) (word ws 2))
+said_by kind.Ta ws = says.App (app_of (word ws 0) (word ws 1))
+said_by kind.Mem ws = says.Fill (fill_of (word ws 0) (word ws 1))
+said_by kind.Key ws = says.Key (bytes (word ws 0))
+said_by kind.Smc ws = says.Item (item.Smc (decimal (word ws 0)) (decimal (word ws 1)) (map register (drop 2 ws)))
+said_by kind.Enter ws = says.Item (item.Enter (decimal (word ws 0)) (decimal (word ws 1)) (map register (drop 2 ws)))
+said_by kind.Leave ws = says.Item (item.Leave (decimal (word ws 0)))
+said_by kind.Write ws = says.Item (item.Write (decimal (word ws 0)) (hexadecimal (word ws 1)) (bytes (word ws 2)))
+said_by kind.Show ws = says.Item (item.Show (decimal (word ws 0)) (hexadecimal (word ws 1)) (decimal (word ws 2)))
+
+abbrev pub said_by_words : Option LineKind → List (List ℕ) → Statement
+said_by_words None words = says.Blank
+said_by_words (Some kind) words = said_by kind (drop 1 words)
+
+-- what a whole line says
+unfoldable pub said_in : List ℕ → Statement
+said_in line = if is_skipped line then says.Blank else said_by_words (kind_named (word (words_of line) 0)) (words_of line)
+
 unfoldable pub added : LineKind → Front → List (List ℕ) → Front
-added kind.Boot before ws = record before { boot = Some (boot_of (word ws 0) (word ws 1) (word ws 2)) }
-added kind.Ta before ws = record before { boot = with_app before.boot (app_of (word ws 0) (word ws 1)) }
-added kind.Mem before ws = record before { fills = before.fills ++ fill_of (word ws 0) (word ws 1) ∷ [] }
-added kind.Key before ws = keyed_with before (bytes (word ws 0))
-added kind.Smc before ws = with_item before (item.Smc (decimal (word ws 0)) (decimal (word ws 1)) (map register (drop 2 ws)))
-added kind.Enter before ws = with_item before (item.Enter (decimal (word ws 0)) (decimal (word ws 1)) (map register (drop 2 ws)))
-added kind.Leave before ws = with_item before (item.Leave (decimal (word ws 0)))
-added kind.Write before ws = with_item before (item.Write (decimal (word ws 0)) (hexadecimal (word ws 1)) (bytes (word ws 2)))
-added kind.Show before ws = with_item before (item.Show (decimal (word ws 0)) (hexadecimal (word ws 1)) (decimal (word ws 2)))
+added kind before ws = with_statement before (said_by kind ws)
 
 abbrev pub added_by_kind : Option LineKind → Front → List (List ℕ) → Front
 added_by_kind None before words = before
