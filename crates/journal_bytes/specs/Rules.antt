@@ -3,7 +3,7 @@ use Rattle.std.specs.Prelude.{ℕ, List, [], ◌∷◌, ◌++◌, drop, slice_in
 use Rattle.std.specs.List.{list_all}
 use Rattle.trace_text.specs.declared.fault.BadKind.{BadKind}
 use Rattle.trace_text.specs.declared.fault.BadKind.TheVariants as bad
-use Rattle.trace_text.specs.Limits.{Front, cpu_limits, cpus_of, is_within, key_place, with_app, with_key}
+use Rattle.trace_text.specs.Limits.{Front, cpu_limits, cpus_of, is_within, key_place, scene_of, with_app, with_key}
 use Rattle.trace_bin.specs.declared.record_kind.RecordKind.TheVariants as trace
 use Rattle.trace_bin.specs.Record.{bytes_in}
 use Rattle.trace_bin.specs.Rules.{app_in, boot_in, boot_rules, ta_rules}
@@ -38,7 +38,7 @@ exit_rules before body = (bad.Place, is_some before.boot) ∷ cpu_limits (cpus_o
 unfoldable pub rules_of : RecordKind → List (List ℕ) → Told → List ℕ → List (BadKind × Bool)
 rules_of kind.Boot natives before body = boot_rules (header_of before) body
 rules_of kind.Ta natives before body = (bad.Place, has_no_event before.events) ∷ ta_rules natives (header_of before) body (bytes_in trace.Ta body)
-rules_of kind.Key natives before body = (bad.Place, has_no_event before.events) ∷ key_place (header_of before)
+rules_of kind.Key natives before body = (bad.Place, has_no_event before.events) ∷ key_place (scene_of (header_of before))
 rules_of kind.Entry natives before body = entry_rules before body
 rules_of kind.Exit natives before body = exit_rules before body
 

@@ -19,7 +19,7 @@ use Rattle.trace_text.specs.declared.item.Item.TheVariants as item
 use Rattle.trace_text.specs.declared.item.Reg.{Reg}
 use Rattle.trace_text.specs.declared.item.Reg.TheVariants.{Num}
 use Rattle.trace_text.specs.declared.trace.Fill.{Fill}
-use Rattle.trace_text.specs.Limits.{Front, first_broken, inside_after, is_image, is_inside, is_known, is_within, key_place, lies_in_ram, no_front, no_key, with_item}
+use Rattle.trace_text.specs.Limits.{Front, first_broken, inside_after, is_image, is_inside, is_known, is_within, key_place, lies_in_ram, no_front, no_key, scene_of, with_item}
 use Rattle.trace_text.specs.Sound.{can_come, IsPartOfRam, IsSoundFill, IsSoundItem, IsSoundReg}
 use Rattle.trace_bin.specs.declared.record_kind.RecordKind.{RecordKind}
 use Rattle.trace_bin.specs.declared.record_kind.RecordKind.TheVariants as kind
@@ -121,7 +121,7 @@ key_read natives boot key rest whole =
     let long : leb 32 (length body) ≡ true = le-leb 32 (length body) (omega (arith, length-append key rest)) in
     let is : take 32 body ≡ key = take_at key rest 32 whole in
     record {
-      kept = none_broken ((bad.Cut, is_whole kind.Key body) ∷ key_place (front_of boot false [] [])) (and_from _ _ long long, (refl, (refl, (refl, tt))));
+      kept = none_broken ((bad.Cut, is_whole kind.Key body) ∷ key_place (scene_of (front_of boot false [] []))) (and_from _ _ long long, (refl, (refl, (refl, tt))));
       adds = ap (λ (k : List ℕ). front_of (record boot { key = k }) true [] []) is;
       behind = drop_at key rest 32 whole;
     }

@@ -10,7 +10,7 @@ use Rattle.trace_text.specs.declared.fault.BadKind.TheVariants as bad
 use Rattle.trace_text.specs.declared.item.Item.TheVariants as item
 use Rattle.trace_text.specs.declared.item.Reg.{Reg}
 use Rattle.trace_text.specs.declared.trace.Fill.{Fill}
-use Rattle.trace_text.specs.Limits.{Front, key_place, keyed_with, no_key, app_limits, apps_of, boot_limits, call_limits, comes_in, cpu_limits, cpus_of, fill_limits, goes_out, has_no_item, show_limits, with_app, with_item, write_limits}
+use Rattle.trace_text.specs.Limits.{Front, key_place, keyed_with, no_key, app_limits, apps_of, boot_limits, call_limits, comes_in, cpu_limits, cpus_of, fill_limits, goes_out, has_no_item, inside_after, scene_of, show_limits, uuids_of, with_app, with_item, write_limits}
 use Rattle.trace_bin.specs.declared.record_kind.RecordKind.{RecordKind}
 use Rattle.trace_bin.specs.declared.record_kind.RecordKind.TheVariants as kind
 use Rattle.trace_bin.specs.Record.{body_len, bytes_in, has_form, is_register, is_whole, kind_tagged, number, register, register_places}
@@ -50,7 +50,7 @@ ta_rules natives before body image =
     (bad.Place, is_some before.boot)
     ∷ (bad.Place, has_no_item before.items)
     ∷ some_bytes image
-    ∷ app_limits natives (apps_of before.boot) (take 16 body) image
+    ∷ app_limits natives (uuids_of (apps_of before.boot)) (take 16 body) image
 
 abbrev pub mem_rules : Front → List ℕ → List ℕ → List (BadKind × Bool)
 mem_rules before body bytes =
@@ -63,10 +63,10 @@ entry_rules before body =
     ∷ (bad.Number, list_all (has_form body) register_places)
     ∷ (bad.Range, list_all (is_register body) register_places)
     ∷ call_limits (cpus_of before.boot) (cpu_in body) (steps_in body)
-    ++ comes_in before.items (cpu_in body)
+    ++ comes_in (inside_after before.items) (cpu_in body)
 
 abbrev pub leave_rules : Front → List ℕ → List (BadKind × Bool)
-leave_rules before body = (bad.Place, is_some before.boot) ∷ cpu_limits (cpus_of before.boot) (cpu_in body) ++ goes_out before.items (cpu_in body)
+leave_rules before body = (bad.Place, is_some before.boot) ∷ cpu_limits (cpus_of before.boot) (cpu_in body) ++ goes_out (inside_after before.items) (cpu_in body)
 
 abbrev pub write_rules : Front → List ℕ → List ℕ → List (BadKind × Bool)
 write_rules before body bytes = (bad.Place, is_some before.boot) ∷ some_bytes bytes ∷ write_limits (cpus_of before.boot) (cpu_in body) (number 8 1 body) (length bytes)
@@ -78,7 +78,7 @@ unfoldable pub rules_of : RecordKind → List (List ℕ) → Front → List ℕ 
 rules_of kind.Boot natives before body bytes = boot_rules before body
 rules_of kind.Ta natives before body bytes = ta_rules natives before body bytes
 rules_of kind.Mem natives before body bytes = mem_rules before body bytes
-rules_of kind.Key natives before body bytes = key_place before
+rules_of kind.Key natives before body bytes = key_place (scene_of before)
 rules_of kind.Smc natives before body bytes = entry_rules before body
 rules_of kind.Enter natives before body bytes = entry_rules before body
 rules_of kind.Leave natives before body bytes = leave_rules before body

@@ -2,7 +2,7 @@
 
 ghost use Rattle.std.specs.Prelude.{◌≡◌, ◌<◌, ◌≤◌, ◌++◌, ◌∷◌, [], length, is_none, is_some, take, IfOk, Some, None, true, MatchResult};
 ghost use Rattle.trace_text.specs.Judging.{IsTaken, Judged};
-ghost use Rattle.trace_text.specs.Limits.{first_broken, key_place, keyed_with, with_app, with_item};
+ghost use Rattle.trace_text.specs.Limits.{first_broken, key_place, keyed_with, scene_of, with_app, with_item};
 ghost use Rattle.trace_bin.specs.Record.{fixed_len, number};
 ghost use Rattle.trace_bin.specs.Rules.{added, after_record, app_in, behind_record, boot_in, boot_rules, cpu_in, entry_rules, fill_in, leave_rules, mem_rules, record_rules, registers_in, rules_of, show_rules, steps_in, ta_rules, write_rules};
 ghost use Rattle.trace_bin.specs.Taking.{IsTakenTo};
@@ -73,11 +73,11 @@ pub fn take_ta(
     if image.is_empty() {
         return Err(LineFault::Broken(BadKind::Range));
     }
-    if builder.apps().len() >= MAX_APPS {
+    if builder.scene().apps().len() >= MAX_APPS {
         return Err(LineFault::Broken(BadKind::Range));
     }
     let uuid = uuid_in(body);
-    if is_known(natives, builder.apps(), uuid) {
+    if is_known(natives, builder.scene().apps(), uuid) {
         return Err(LineFault::Broken(BadKind::Repeat));
     }
     let image = image_of(alloc, image)?;
@@ -118,13 +118,13 @@ fn take_mem(
 /// A record `key`.
 pub fn take_key(builder: &mut Builder, body: &[u8]) -> Result<(), LineFault>
     requires { 32 ≤ length body.now }
-    ensures { IsTaken result (key_place builder.old)
+    ensures { IsTaken result (key_place (scene_of builder.old))
         (keyed_with builder.old (take 32 body.now)) builder.new }
 {
     if builder.cpus().is_none() {
         return Err(LineFault::Broken(BadKind::Place));
     }
-    if !builder.has_no_item() || builder.has_key() {
+    if !builder.has_no_item() || builder.scene().has_key() {
         return Err(LineFault::Broken(BadKind::Place));
     }
     builder.set_key(key_in(body));

@@ -1,5 +1,5 @@
 -- What the functions of this crate, and of those with a grammar of their own, answer in the words of the rules.
-use Rattle.std.specs.Prelude.{◌≡◌, ℕ, List, [], Bool, true, false, ◌≤◌, Option, Some, None, is_none, IfSome, Result, Ok, Err, unwrap_or}
+use Rattle.std.specs.Prelude.{◌≡◌, ℕ, List, [], Bool, true, false, ◌&&◌, Option, Some, None, is_none, is_some, Result, Ok, Err, unwrap_or}
 use Rattle.ta_isa.specs.declared.boot.App.{App}
 use Rattle.ta_isa.specs.declared.boot.Boot.{Boot}
 use Rattle.ta_isa.specs.declared.image_fault.ImageFault.{ImageFault}
@@ -14,8 +14,9 @@ use Rattle.trace_text.specs.declared.fault.TraceFault.TheVariants.{Bad, Memory}
 use Rattle.trace_text.specs.declared.item.Item.{Item}
 use Rattle.trace_text.specs.declared.item.Item.TheVariants as item
 use Rattle.trace_text.specs.declared.limits.Size.{Size}
+use Rattle.trace_text.specs.declared.trace.Fill.{Fill}
 use Rattle.trace_text.specs.declared.trace.Trace.{Trace}
-use Rattle.trace_text.specs.Limits.{Front, first_broken, inside_after, no_key, trace_in}
+use Rattle.trace_text.specs.Limits.{Front, SceneState, first_broken, no_key, scene_of, trace_in}
 
 -- a word was read: it has the form, and this is what it writes; or it hasn't
 abbrev pub Reads : {A : Type 0} → Option A → Bool → A → Type 0
@@ -32,6 +33,11 @@ abbrev pub Judged : {X Y : Type 0} → (X → Y) → Result X LineFault → List
 Judged view (Ok x) rules value = (first_broken rules ≡ None) × (view x ≡ value)
 Judged view (Err (Broken kind)) rules value = first_broken rules ≡ Some kind
 Judged view (Err NoRoom) rules value = Unit {0}
+
+-- what a boot is given may stand here: behind a boot, and where that is open
+abbrev pub IsPlaced : Result Unit LineFault → Bool → Bool → Type 0
+IsPlaced (Ok u) booted open_there = (booted ≡ true) × (open_there ≡ true)
+IsPlaced (Err fault) booted open_there = ((booted && open_there) ≡ false) × (fault ≡ Broken bad.Place)
 
 -- what an image's fault makes of its line
 abbrev pub of_image : ImageFault → LineFault
@@ -91,9 +97,12 @@ booted None apps key = None
 booted (Some size) apps key =
     Some (record { cpus = size.cpus; threads = size.threads; frames = size.frames; apps = apps; key = key_of key })
 
--- what the fields of a reader keep: no application before the boot, at most eight processors, and which are inside
-pub record IsTracked (size : Option Size) (apps : List App) (key : Option (List ℕ)) (items : List Item) (inside : List Bool) : Type 0 where
+-- the trace of what a builder has
+abbrev pub built : Option Size → List App → Option (List ℕ) → List Fill → List Item → Front
+built size apps key fills items = record { boot = booted size apps key; fills = fills; items = items; keyed = is_some key }
+
+-- what the fields of a builder keep: no application and no key before the boot, and the scene is that of the trace
+pub record IsTracked (size : Option Size) (apps : List App) (key : Option (List ℕ)) (front : Front) (scene : SceneState) : Type 0 where
   pub no_apps : is_none size ≡ true → apps ≡ []
   pub no_key : is_none size ≡ true → key ≡ None
-  pub few_cpus : IfSome size (λ s. s.cpus ≤ 8)
-  pub inside_is : inside ≡ inside_after items
+  pub scene_is : scene ≡ scene_of front

@@ -39,6 +39,11 @@ scene_after scene (says.Key key) = record scene { keyed = true }
 scene_after scene (says.Item i) = record scene { is_open = false; inside = moved scene.inside i }
 scene_after scene (says.Signal value) = record scene { is_open = false }
 
+-- where a signal stands behind the trace, it closes what a boot is given, as an item does
+abbrev pub closed_if : Bool → SceneState → SceneState
+closed_if false scene = scene
+closed_if true scene = record scene { is_open = false }
+
 -- ---- where it stands
 
 -- behind the boot, before the first item and the first signal

@@ -1,54 +1,42 @@
 //! The trace so far, which a reader of lines or of records adds to.
 
 ghost use Rattle.std.specs.Prelude.{◌≡◌, ◌<◌, ◌≤◌, ◌++◌, ◌∷◌, [], is_some, length, true, false, IfSome, None, Some};
-ghost use Rattle.std.specs.List.{list_any};
 ghost use Rattle.trace_text.specs.Judging.{Ends, IsPut, Reads, booted, item_cpu};
-ghost use Rattle.trace_text.specs.Limits.{apps_of, cpus_of, end_fault, has_no_item, inside_after, is_inside, keyed_with, moved, no_front, trace_in, with_app, with_item};
+ghost use Rattle.trace_text.specs.Limits.{cpus_of, end_fault, has_no_item, is_inside, keyed_with, no_front, scene_of, trace_in, with_app, with_item};
+ghost use Rattle.trace_text.specs.Statement.{HasFewCpus, IsInPlace, with_statement};
 
 use crate::fault::{BadKind, LineFault};
 use crate::item::Item;
 use crate::limits::{KEY_BYTES, Size, boot_of};
+use crate::scene::Scene;
+use crate::statement::Statement;
 use crate::trace::{Fill, Trace};
 use base::Sequence;
 use std::alloc::Global;
 use std::marker::Model;
 use ta_isa::App;
 
-/// Which processors are inside after an item, of those that were before.
-fn moved(mut inside: [bool; 8], item: &Item) -> [bool; 8]
-    requires { item_cpu item.now < 8 }
-    ensures { result ≡ moved inside item.now }
-{
-    match item {
-        Item::Enter { cpu, .. } => inside[usize::from(*cpu)] = true,
-        Item::Leave { cpu } => inside[usize::from(*cpu)] = false,
-        _ => {}
-    }
-    inside
-}
-
-/// The trace that the lines or records so far give, and which processors are inside. A reader judges each by the limits of
-/// traces and then puts what it says here.
+/// The trace that the lines or records so far give, and its scene. A reader judges each by the limits of traces and then pushes
+/// what it says here.
 #[derive(Drop)]
 pub struct Builder {
+    scene: Scene,
     size: Option<Size>,
     apps: Vec<App>,
     key: Option<[u8; KEY_BYTES]>,
     fills: Vec<Fill>,
     items: Vec<Item>,
-    inside: [bool; 8],
 }
 
 impl Model for Builder {
-    ghost use Rattle.std.specs.Prelude.{is_some};
-    ghost use Rattle.trace_text.specs.Judging.{booted, IsTracked};
+    ghost use Rattle.trace_text.specs.Judging.{IsTracked, built};
     ghost use Rattle.trace_text.specs.Limits.{Front};
 
     ghost Value = { Front };
 
-    ghost view = { λ r. record { boot = booted r.size r.apps.items r.key; fills = r.fills.items; items = r.items.items; keyed = is_some r.key } };
+    ghost view = { λ r. built r.size r.apps.items r.key r.fills.items r.items.items };
 
-    ghost invariant = { λ r. IsTracked r.size r.apps.items r.key r.items.items r.inside };
+    ghost invariant = { λ r. IsTracked r.size r.apps.items r.key (built r.size r.apps.items r.key r.fills.items r.items.items) r.scene };
 }
 
 impl Builder {
@@ -58,12 +46,12 @@ impl Builder {
         ensures { result ≡ no_front }
     {
         Builder {
+            scene: Scene::new(alloc),
             size: None,
             apps: Vec::new(alloc),
             key: None,
             fills: Vec::new(alloc),
             items: Vec::new(alloc),
-            inside: [false; 8],
         }
     }
 
@@ -72,12 +60,12 @@ impl Builder {
         ensures { result ≡ trace_in self }
     {
         let Builder {
+            scene: _,
             size,
             apps,
             key,
             fills,
             items,
-            inside: _,
         } = self;
         Trace {
             boot: boot_of(size, apps, key),
@@ -86,13 +74,19 @@ impl Builder {
         }
     }
 
+    /// What the rules of the next line or record look at.
+    pub fn scene(&self) -> &Scene
+        ensures { result.now ≡ scene_of self.now }
+    {
+        &self.scene
+    }
+
     /// How many processors there are, after the boot.
     pub fn cpus(&self) -> Option<u8>
         ensures read { Reads result (is_some self.now.boot) (cpus_of self.now.boot) }
         ensures few { IfSome result (λ n. n ≤ 8) }
     {
-        let size = self.size?;
-        Some(size.cpus)
+        self.scene.cpus()
     }
 
     /// Whether no item stands yet.
@@ -109,25 +103,12 @@ impl Builder {
         self.items.len()
     }
 
-    /// The applications in images so far.
-    pub fn apps(&self) -> &[App]
-        ensures { result.now ≡ apps_of self.now.boot }
-    {
-        self.apps.as_slice()
-    }
-
     /// Whether a processor is inside.
     pub fn is_inside(&self, cpu: u8) -> bool
         requires { cpu < 8 }
         ensures { result ≡ is_inside self.now.items cpu }
     {
-        self.inside[usize::from(cpu)]
-    }
-
-    fn is_anyone_inside(&self) -> bool
-        ensures { result ≡ list_any (λ inside. inside) (inside_after self.now.items) }
-    {
-        self.inside.iter().any(|inside| *inside)
+        self.scene.is_inside(cpu)
     }
 
     /// What the boot says but for its applications.
@@ -137,6 +118,7 @@ impl Builder {
         ensures { self.new ≡ record self.old { boot = booted (Some size) [] None } }
     {
         self.size = Some(size);
+        self.scene.boot(size.cpus);
     }
 
     /// Adds an application behind the others.
@@ -144,25 +126,24 @@ impl Builder {
         requires { is_some self.old.boot ≡ true }
         ensures { IsPut result (record self.old { boot = with_app self.old.boot app }) self.new }
     {
+        let count = self.apps.len();
+        let uuid = app.uuid;
         self.apps.push(app)?;
+        if self.scene.push_app(uuid).is_err() {
+            self.apps.truncate(count);
+            return Err(LineFault::NoRoom);
+        }
         Ok(())
-    }
-
-    /// Whether the key is there.
-    pub fn has_key(&self) -> bool
-        ensures { result ≡ self.now.keyed }
-    {
-        self.key.is_some()
     }
 
     /// Sets the key of the boot.
     #[tactic(auto, using(crate::proofs::Keys::with_key_booted, crate::proofs::Keys::is_none_booted))]
     pub fn set_key(&mut self, key: [u8; KEY_BYTES])
-        requires boot { is_some self.old.boot ≡ true }
-        requires first { self.old.keyed ≡ false }
+        requires { is_some self.old.boot ≡ true }
         ensures { self.new ≡ keyed_with self.old key }
     {
         self.key = Some(key);
+        self.scene.set_key();
     }
 
     /// Adds bytes that stand in every lane at the start.
@@ -178,17 +159,39 @@ impl Builder {
         requires { item_cpu item < 8 }
         ensures { IsPut result (with_item self.old item) self.new }
     {
-        let inside = moved(self.inside, &item);
+        let inside = self.scene.inside_after(&item);
         self.items.push(item)?;
-        self.inside = inside;
+        self.scene.go_on(inside);
         Ok(())
+    }
+
+    /// Adds what a line says that keeps its rules.
+    pub fn push(&mut self, said: Statement) -> Result<(), LineFault>
+        requires place { IsInPlace (scene_of self.old) said }
+        requires few { HasFewCpus said }
+        ensures { IsPut result (with_statement self.old said) self.new }
+    {
+        match said {
+            Statement::Blank | Statement::Signal(_) => Ok(()),
+            Statement::Boot(size) => {
+                self.set_size(size);
+                Ok(())
+            }
+            Statement::App(app) => self.push_app(app),
+            Statement::Fill(fill) => self.push_fill(fill),
+            Statement::Key(key) => {
+                self.set_key(key);
+                Ok(())
+            }
+            Statement::Item(item) => self.push_item(item),
+        }
     }
 
     /// The trace, at the end of what it is read from.
     pub fn finish(self) -> Result<Trace, BadKind>
         ensures { Ends result (end_fault self) self }
     {
-        if self.is_anyone_inside() {
+        if self.scene.is_anyone_inside() {
             return Err(BadKind::Unended);
         }
         Ok(self.into_trace())

@@ -14,6 +14,9 @@ use std::alloc::Global;
 use ta_isa::{App, Boot, Image, decode_image};
 use uuid::Uuid;
 
+/// The most processors that there are.
+pub const MAX_CPUS: usize = 8;
+
 /// The applications that a trace may have in images.
 pub const MAX_APPS: usize = 16;
 
@@ -74,26 +77,19 @@ pub fn lies_in_ram(addr: u64, len: u64) -> bool
     in_ram(addr, len)
 }
 
-/// Whether an application in an image has this UUID.
-fn is_in_image(apps: &[App], id: Uuid) -> bool
-    ensures { result ≡ list_any (λ app. bytes_eq app.uuid id) apps.now }
+/// Whether this UUID is among these.
+fn is_among(ids: &[Uuid], id: Uuid) -> bool
+    ensures { result ≡ list_any (λ other. bytes_eq other id) ids.now }
 {
-    apps.iter().any(|app| app.uuid == id)
+    ids.iter().any(|other| *other == id)
 }
 
-/// Whether a built-in application has this UUID.
-fn is_built_in(natives: &[Uuid], id: Uuid) -> bool
-    ensures { result ≡ list_any (λ native. bytes_eq native id) natives.now }
-{
-    natives.iter().any(|native| *native == id)
-}
-
-/// Whether some application has this UUID.
+/// Whether some application has this UUID, of those that are built in and those in images.
 #[tactic(auto, unfolding(crate::specs::Limits::is_known))]
-pub fn is_known(natives: &[Uuid], apps: &[App], id: Uuid) -> bool
+pub fn is_known(natives: &[Uuid], apps: &[Uuid], id: Uuid) -> bool
     ensures { result ≡ is_known natives.now apps.now id }
 {
-    is_in_image(apps, id) || is_built_in(natives, id)
+    is_among(apps, id) || is_among(natives, id)
 }
 
 /// The image of these bytes.

@@ -1,14 +1,18 @@
-//! Lines `smc` that have no fault, read in one pass.
+//! Lines `smc` and `write` that have no fault, read in one pass.
 
 ghost use Rattle.std.specs.Prelude.{◌≡◌, ◌≤◌, nat_lt, true, IfSome};
+ghost use Rattle.text_lines.specs.Lines.{IsCutAt};
 ghost use Rattle.trace_text.specs.Limits.{is_within};
-ghost use Rattle.trace_text.specs.Plain.{AreRegisters, BeginsWithDecimal, BeginsWithNumber, IsPlain};
+ghost use Rattle.trace_text.specs.Plain.{AreRegisters, BeginsWithDecimal, BeginsWithNumber, IsPlain, Writes};
 
 use crate::digit::digit_of;
-use crate::item::Reg;
-use crate::limits::{MAX_STEPS, is_there, is_within};
+use crate::item::{Item, Reg};
+use crate::limits::{MAX_STEPS, is_there, is_within, lies_in_ram};
 use crate::said::Call;
-use crate::word::short_hexadecimal;
+use crate::word::{address, bytes, short_hexadecimal};
+use base::Sequence;
+use memchr::memchr;
+use std::alloc::Global;
 
 /// The most digits of a number in such a line: in hexadecimal they fill 32 bits.
 const MAX_DIGITS: usize = 8;
@@ -83,5 +87,35 @@ pub fn plain_call(cpus: u8, line: &[u8]) -> Option<Call>
         cpu: cpu as u8,
         steps,
         regs,
+    })
+}
+
+/// The first word of a line that has others, and what stands behind the space after it.
+fn front_word(line: &[u8]) -> Option<(&[u8], &[u8])>
+    ensures { IfSome result (λ x. IsCutAt 32 line.now x.0.now x.1.now) }
+{
+    let end = memchr(b' ', line)?;
+    Some((&line[..end], &line[end + 1..]))
+}
+
+/// What a line `write` says that has no fault, on a core of so many processors.
+pub fn plain_write(alloc: Global, cpus: u8, line: &[u8]) -> Option<Item>
+    ensures { IfSome result (Writes cpus line.now) }
+{
+    let rest = line.strip_prefix(b"write ")?;
+    let (cpu, rest) = front_decimal(rest)?;
+    let (word, rest) = front_word(rest)?;
+    let addr = address(word).ok()?;
+    if rest.is_empty() || !is_there(cpus, cpu) {
+        return None;
+    }
+    let bytes = bytes(alloc, rest).ok()?;
+    if !lies_in_ram(addr, bytes.len() as u64) {
+        return None;
+    }
+    Some(Item::Write {
+        cpu: cpu as u8,
+        addr,
+        bytes: Sequence::of(bytes),
     })
 }

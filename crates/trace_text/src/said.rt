@@ -4,7 +4,7 @@ ghost use Rattle.std.specs.Prelude.{◌≡◌, ◌<◌, ◌≤◌, length, map, 
 ghost use Rattle.std.specs.List.{list_all};
 ghost use Rattle.trace_text.specs.Forms.{bytes, decimal, hexadecimal, is_register, register};
 ghost use Rattle.trace_text.specs.Judging.{Judged, Reads, item_cpu};
-ghost use Rattle.trace_text.specs.Rules.{app_of, boot_rules, call_rules, cpu_rules, fill_of, key_rules, mem_rules, show_rules, ta_rules, write_rules};
+ghost use Rattle.trace_text.specs.Rules.{app_of, boot_rules, call_rules, cpu_rules, fill_of, key_rules, mem_rules, show_rules, size_of, ta_rules, write_rules};
 ghost use Rattle.trace_text.specs.declared.item.Item.TheVariants as item;
 
 use crate::fault::{BadKind, LineFault};
@@ -33,7 +33,7 @@ pub struct Call {
 pub fn size_of(cpus: &[u8], threads: &[u8], frames: &[u8]) -> Result<Size, LineFault>
     ensures few { IfOk result (λ s. s.cpus ≤ 8) }
     ensures said { Judged (λ s. s) result (boot_rules cpus.now threads.now frames.now)
-        (record { cpus = decimal cpus.now; threads = decimal threads.now; frames = decimal frames.now }) }
+        (size_of cpus.now threads.now frames.now) }
 {
     let cpus = number(cpus)?;
     let threads = number(threads)?;
@@ -58,7 +58,7 @@ pub fn size_of(cpus: &[u8], threads: &[u8], frames: &[u8]) -> Result<Size, LineF
 pub fn app_of(
     alloc: Global,
     natives: &[Uuid],
-    apps: &[App],
+    apps: &[Uuid],
     id: &[u8],
     image: &[u8],
 ) -> Result<App, LineFault>

@@ -1,5 +1,5 @@
 use Rattle.trace_text.proofs.PlainLines.{plain_adds_item}
-use Rattle.trace_text.proofs.builder.Builder.plain_smc.Goals as goal
+use Rattle.trace_text.proofs.scene.Scene.plain_smc.Goals as goal
 
 pub returns : goal.returns
 returns c =
