@@ -9,4 +9,7 @@ pub mod SoundLaws
 pub mod Answered
 pub mod GrammarLaws
 pub mod PlainLines
+pub mod Standing
+pub mod Scenes
+pub mod Taking
 pub mod Keys

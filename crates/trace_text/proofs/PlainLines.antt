@@ -1,8 +1,9 @@
--- Lines `smc` read in one pass: their words, and what these write.
+-- Lines `smc` and `write` read in one pass: their words, and what these write.
 use Rattle.std.proofs.Common.{◌≡◌, ℕ, ◌+◌, ◌-◌, ◌*◌, ◌^◌, ◌<◌, ◌≤◌, Bool, true, false, not, ◌&&◌, eqb, ltb, leb, Bor, List, [], ◌∷◌, ◌++◌, length, map, get_or, take, drop, set, Option, Some, None, Result, Ok, Err, refl, sym, ap, ◌∙◌, arith}
 use Rattle.std.specs.Prelude.{codes, is_some, IfSome}
 use Rattle.std.specs.Char.{digit_value}
 use Rattle.std.specs.List.{list_all}
+use Rattle.std.specs.Result.{result_ok}
 use Rattle.std.specs.Str.Parse.{AllDigits, digits_value}
 use Rattle.std.proofs.Math.Path.{subst}
 use Rattle.std.proofs.Math.Nat.{pow-le-pow_left, pow-le-pow_right, mul-le-mul_left}
@@ -11,24 +12,30 @@ use Rattle.std.proofs.lemmas.Int.Digits.{digits_value-lt}
 use Rattle.std.proofs.lemmas.List.{append_assoc, drop_more, get_or_append_left, length-set, length-take, take-append-drop, take_all, take_more_set, take_rest}
 use Rattle.std.proofs.lemmas.List.Elements.{All-cons, All-nil}
 use Rattle.std.proofs.lemmas.List.Folds.{list_all-append}
+use Rattle.std.proofs.lemmas.List.Sums.{list_all-from_AllPass}
 use Rattle.std.proofs.lemmas.List.Splits.{slice_split_at, slice_split_none}
+use Rattle.hex.specs.Hex.{decode_of, is_hex_digit}
+use Rattle.hex.proofs.HexLemmas.{decode_of-ok}
 use Rattle.text_lines.proofs.Options.{guard_some}
 use Rattle.text_lines.specs.Lines.{IsCutAt, Lacks, is_skipped}
 use Rattle.text_lines.specs.Words.{words_of}
 use Rattle.trace_text.specs.declared.fault.BadKind.{BadKind}
+use Rattle.trace_text.specs.declared.fault.BadKind.TheVariants as bad
 use Rattle.trace_text.specs.declared.fault.LineFault.{LineFault}
-use Rattle.trace_text.specs.declared.fault.LineFault.TheVariants.{Broken, NoRoom}
 use Rattle.trace_text.specs.declared.item.Item.{Item}
 use Rattle.trace_text.specs.declared.item.Item.TheVariants as item
 use Rattle.trace_text.specs.declared.item.Reg.{Reg}
 use Rattle.trace_text.specs.declared.item.Reg.TheVariants.{Last, Num}
-use Rattle.trace_text.specs.Forms.{decimal, hexadecimal, is_decimal, is_hexadecimal, is_last, is_register, register}
-use Rattle.trace_text.specs.Judging.{IsPut, IsTaken}
-use Rattle.trace_text.specs.Limits.{Front, cpus_of, first_broken, is_inside, is_within, with_item}
-use Rattle.trace_text.specs.Plain.{AddsItem, AreRegisters, BeginsWithDecimal, BeginsWithNumber, IsPlain}
+use Rattle.trace_text.specs.declared.statement.Statement.TheVariants as says
+use Rattle.trace_text.specs.Forms.{bytes, decimal, hexadecimal, is_decimal, is_hex, is_hexadecimal, is_last, is_register, register}
+use Rattle.trace_text.specs.Judging.{IsSaid, Judged}
+use Rattle.trace_text.specs.Limits.{SceneState, first_broken, is_within, lies_in_ram}
+use Rattle.trace_text.specs.Plain.{AreRegisters, BeginsWithDecimal, BeginsWithNumber, IsPlain, IsPlainWrite, SaysItem, Writes}
 use Rattle.trace_text.specs.Reading.{are_digits, has_leading_zero, hexadecimal_at}
-use Rattle.trace_text.specs.Rules.{added, after_line, counts, is_text_byte, kind_named, line_rules, rules_behind}
+use Rattle.trace_text.specs.Rules.{counts, is_text_byte, kind_named, rules_at, said_in}
 use Rattle.trace_text.proofs.Digits.{are_digits_from, digits_from_tests}
+use Rattle.trace_text.proofs.SoundLaws.{one_kept}
+use Rattle.trace_text.proofs.SoundWords.{ok_is, within}
 
 -- ---- digits
 
@@ -249,36 +256,132 @@ pub plain_line : (line rest behind_cpu regs_text : List ℕ) (cpu steps : ℕ) (
 plain_line line rest behind_cpu regs_text cpu steps regs is c s r =
     subst (λ (l : List ℕ). IsPlain l cpu steps regs) (sym is) (plain_line_front rest behind_cpu regs_text cpu steps regs c s r)
 
--- such a line keeps its rules, where its processor is there and outside
-plain_kept : (natives : List (List ℕ)) (before : Front) (line : List ℕ) (cpu steps : ℕ) (regs : List Reg) → IsPlain line cpu steps regs → is_some before.boot ≡ true → is_within 1 1000000 steps ≡ true → ltb cpu (cpus_of before.boot) ≡ true
-    → is_inside before.items cpu ≡ false → first_broken (line_rules natives before true line) ≡ None
-unfolding line_rules kind_named rules_behind
-plain_kept natives before line cpu steps regs p booted granted there outside =
+-- such a line keeps its rules in a scene where its processor is there and outside, and says its item
+plain_kept : (scene : SceneState) (natives : List (List ℕ)) (is_open : Bool) (line : List ℕ) (cpu steps : ℕ) (regs : List Reg) → IsPlain line cpu steps regs → scene.is_booted ≡ true → is_within 1 1000000 steps ≡ true → ltb cpu scene.cpus ≡ true
+    → get_or scene.inside cpu false ≡ false → first_broken (rules_at natives (record scene { is_open = is_open }) true line) ≡ None
+unfolding kind_named
+plain_kept scene natives is_open line cpu steps regs p booted granted there outside =
     let counted : counts 10 (codes "smc" ∷ p.cpu_word ∷ p.steps_word ∷ p.reg_words) ≡ true = rw p.words at p.counted in
     let granted_by : is_within 1 1000000 (decimal p.steps_word) ≡ true = rw p.steps_is at granted in
-    let there_by : ltb (decimal p.cpu_word) (cpus_of before.boot) ≡ true = rw p.cpu_is at there in
-    let outside_by : is_inside before.items (decimal p.cpu_word) ≡ false = rw p.cpu_is at outside in
+    let there_by : ltb (decimal p.cpu_word) scene.cpus ≡ true = rw p.cpu_is at there in
+    let outside_by : get_or scene.inside (decimal p.cpu_word) false ≡ false = rw p.cpu_is at outside in
     rw (p.text, p.told, p.words, counted, booted, p.cpu_form, p.steps_form, p.regs_form, granted_by, there_by, outside_by) refl
 
--- and adds its item
-plain_adds : (before : Front) (line : List ℕ) (cpu steps : ℕ) (regs : List Reg) → IsPlain line cpu steps regs → after_line before line ≡ with_item before (item.Smc cpu steps regs)
-unfolding after_line kind_named added
-plain_adds before line cpu steps regs p = rw (p.told, p.words, p.cpu_is, p.steps_is, p.regs_are) refl
+plain_said : (line : List ℕ) (cpu steps : ℕ) (regs : List Reg) → IsPlain line cpu steps regs → said_in line ≡ says.Item (item.Smc cpu steps regs)
+unfolding said_in kind_named
+plain_said line cpu steps regs p = rw (p.told, p.words, p.cpu_is, p.steps_is, p.regs_are) refl
 
-pub plain_adds_item : (before : Front) (line : List ℕ) (cpus cpu steps : ℕ) (regs : List Reg) → (is_some before.boot ≡ true) × (cpus ≡ cpus_of before.boot) → cpus ≤ 8 → IsPlain line cpu steps regs → ltb cpu cpus ≡ true → is_within 1 1000000 steps ≡ true
-    → false ≡ is_inside before.items cpu → AddsItem before line (item.Smc cpu steps regs)
-plain_adds_item before line cpus cpu steps regs booted few p there granted outside = record {
-  kept = λ natives. plain_kept natives before line cpu steps regs p booted.0 granted (rw booted.1 at there) (sym outside);
-  adds = plain_adds before line cpu steps regs p;
-  few = omega (arith, ltb-true _ _ there);
+pub plain_says : (scene : SceneState) (line : List ℕ) (cpus cpu steps : ℕ) (regs : List Reg) → scene.is_booted ≡ true → cpus ≡ scene.cpus → IsPlain line cpu steps regs → ltb cpu cpus ≡ true → is_within 1 1000000 steps ≡ true
+    → false ≡ get_or scene.inside cpu false → SaysItem scene line (item.Smc cpu steps regs)
+plain_says scene line cpus cpu steps regs booted count p there granted outside = record {
+  kept = λ natives is_open. plain_kept scene natives is_open line cpu steps regs p booted granted (rw count at there) (sym outside);
+  said = plain_said line cpu steps regs p;
 }
 
-put_is_taken : (result : Result Unit LineFault) (rules : List (BadKind × Bool)) (wanted after : Front) → first_broken rules ≡ None → IsPut result wanted after → IsTaken result rules wanted after
-put_is_taken (Ok u) rules wanted after kept put = (kept, put)
-put_is_taken (Err (Broken kind)) rules wanted after kept put = absurd cc
-put_is_taken (Err NoRoom) rules wanted after kept put = tt
+-- ---- writes
 
--- a line is taken by its item, or memory runs out
-pub item_is_taken : (natives : List (List ℕ)) (before after : Front) (line : List ℕ) (i : Item) (result : Result Unit LineFault) → AddsItem before line i → IsPut result (with_item before i) after
-    → IsTaken result (line_rules natives before true line) (after_line before line) after
-item_is_taken natives before after line i result adds put = rw adds.adds (put_is_taken result (line_rules natives before true line) (with_item before i) after (adds.kept natives) put)
+-- what was read of a word that has its form
+pub said_ok : {A : Type 0} (result : Result A LineFault) (kind : BadKind) (form : Bool) (value read : A) → Some read ≡ result_ok result → IsSaid result kind form value → (form ≡ true) × (read ≡ value)
+said_ok (Ok x) kind form value read is said = let same : read ≡ x = cc in (said.0, same ∙ said.1)
+said_ok (Err fault) kind form value read is said = absurd cc
+
+pub judged_ok : {X Y : Type 0} (view : X → Y) (result : Result X LineFault) (rules : List (BadKind × Bool)) (value : Y) (read : X) → Some read ≡ result_ok result → Judged view result rules value → (first_broken rules ≡ None) × (view read ≡ value)
+judged_ok view (Ok x) rules value read is judged = let same : read ≡ x = cc in (judged.0, ap view same ∙ judged.1)
+judged_ok view (Err fault) rules value read is judged = absurd cc
+
+hex_digit : (c : ℕ) → is_hex_digit c ≡ true → IsTextDigit c
+hex_digit c =
+    let Told : Option ℕ → Type 0 = λ v. is_some v ≡ true → IsTextDigit c in
+    cond_both (leb 65 c && leb c 70) (Some (c - 55)) _ Told
+    (λ a _. let p = within 65 70 c a in record { low = omega (arith, p.0); high = omega (arith, p.1); other = λ e. omega (arith, e, p.0) })
+    (λ _. cond_both (leb 97 c && leb c 102) (Some (c - 87)) _ Told
+    (λ a _. let p = within 97 102 c a in record { low = omega (arith, p.0); high = p.1; other = λ e. omega (arith, e, p.0) })
+    (λ _. cond_both (leb 48 c && leb c 57) (Some (c - 48)) None Told
+    (λ a _. let p = within 48 57 c a in record { low = p.0; high = omega (arith, p.1); other = λ e. omega (arith, e, p.1) })
+    (λ _ h. absurd cc)))
+
+hex_digits_lack : (word : List ℕ) → list_all is_hex_digit word ≡ true → Lacks 32 word
+hex_digits_lack [] all = All-nil (λ b. eqb b 32 ≡ false)
+hex_digits_lack (c ∷ cs) all =
+    let p = and_parts (is_hex_digit c) (list_all is_hex_digit cs) all in
+    let digit = hex_digit c p.0 in
+    All-cons (λ b. eqb b 32 ≡ false) c cs (ne_eqb c 32 (λ e. omega (arith, e, digit.low))) (hex_digits_lack cs p.1)
+
+hex_digits_are_text : (word : List ℕ) → list_all is_hex_digit word ≡ true → list_all is_text_byte word ≡ true
+hex_digits_are_text [] all = refl
+hex_digits_are_text (c ∷ cs) all =
+    let p = and_parts (is_hex_digit c) (list_all is_hex_digit cs) all in
+    let digit = hex_digit c p.0 in
+    and_from (is_text_byte c) _ (and_from _ _ (le-leb 32 c (omega (arith, digit.low))) (le-leb c 126 (omega (arith, digit.high)))) (hex_digits_are_text cs p.1)
+
+hex_digits : (word : List ℕ) → is_hex word ≡ true → list_all is_hex_digit word ≡ true
+unfolding is_hex
+hex_digits word form = list_all-from_AllPass is_hex_digit word (decode_of-ok word _ (ok_is (decode_of word) form)).1
+
+address_digits : (word : List ℕ) → is_hexadecimal 16 word ≡ true → are_digits 16 word ≡ true
+unfolding is_hexadecimal
+address_digits word form = (and_parts (are_digits 16 word) (leb (length word) 16) form).0
+
+write_line_front : (rest behind_cpu hex addr_word : List ℕ) (cpu addr : ℕ) (written : List ℕ) → BeginsWithDecimal rest cpu behind_cpu → IsCutAt 32 behind_cpu addr_word hex → is_hexadecimal 16 addr_word ≡ true → addr ≡ hexadecimal addr_word
+    → 0 < length hex → is_hex hex ≡ true → written ≡ bytes hex → IsPlainWrite (codes "write " ++ rest) cpu addr written
+unfolding counts is_skipped
+write_line_front rest behind_cpu hex addr_word cpu addr written c cut form addr_is some hex_form written_is =
+    let cut_cpu = cut_off 10 rest c.word behind_cpu (omega arith) c.cut (decimal_digits c.word c.form) in
+    let cut_addr = cut_off 16 behind_cpu addr_word hex (omega arith) cut (address_digits addr_word form) in
+    let digits = hex_digits hex hex_form in
+    let last : words_of hex ≡ hex ∷ [] = slice_split_none (λ b. eqb b 32) hex (hex_digits_lack hex digits) in
+    let line : List ℕ = codes "write " ++ rest in
+    let words : words_of line ≡ codes "write" ∷ c.word ∷ addr_word ∷ hex ∷ [] =
+    ap (λ (ws : List (List ℕ)). codes "write" ∷ ws) (cut_cpu.words ∙ ap (λ (ws : List (List ℕ)). c.word ∷ ws) (cut_addr.words ∙ ap (λ (ws : List (List ℕ)). addr_word ∷ ws) last))
+    in
+    let filled : list_all (λ w. ltb 0 (length w)) (words_of line) ≡ true =
+    ap (list_all (λ w. ltb 0 (length w))) words
+    ∙ and_from (ltb 0 (length c.word)) _ cut_cpu.filled (and_from (ltb 0 (length addr_word)) _ cut_addr.filled (and_from (ltb 0 (length hex)) true (lt-ltb 0 (length hex) some) refl))
+    in
+    record {
+      cpu_word = c.word;
+      addr_word = addr_word;
+      hex_word = hex;
+      words = words;
+      text = cut_cpu.text ∙ cut_addr.text ∙ hex_digits_are_text hex digits;
+      told = or_from (eqb (length line) 0) _ (ne_eqb _ _ (λ e. omega (arith, e))) refl;
+      counted = and_from _ _ (eq-eqb _ _ (omega (arith, ap length words))) filled;
+      cpu_form = c.form;
+      cpu_is = c.value;
+      addr_form = form;
+      addr_is = addr_is;
+      hex_form = hex_form;
+      written_is = written_is;
+    }
+
+pub write_line : (line rest behind_cpu hex addr_word : List ℕ) (cpu addr : ℕ) (written : List ℕ) → line ≡ codes "write " ++ rest → BeginsWithDecimal rest cpu behind_cpu → IsCutAt 32 behind_cpu addr_word hex
+    → (is_hexadecimal 16 addr_word ≡ true) × (addr ≡ hexadecimal addr_word) → 0 < length hex → (first_broken ((bad.Hex, is_hex hex) ∷ []) ≡ None) × (written ≡ bytes hex) → IsPlainWrite line cpu addr written
+write_line line rest behind_cpu hex addr_word cpu addr written is c cut address some decoded =
+    subst (λ (l : List ℕ). IsPlainWrite l cpu addr written) (sym is) (write_line_front rest behind_cpu hex addr_word cpu addr written c cut address.0 address.1 some (one_kept bad.Hex (is_hex hex) None decoded.0).0 decoded.1)
+
+write_kept : (scene : SceneState) (natives : List (List ℕ)) (is_open : Bool) (line : List ℕ) (cpu addr : ℕ) (written : List ℕ) → IsPlainWrite line cpu addr written → scene.is_booted ≡ true → ltb cpu scene.cpus ≡ true → lies_in_ram addr (length written) ≡ true
+    → first_broken (rules_at natives (record scene { is_open = is_open }) true line) ≡ None
+unfolding kind_named
+write_kept scene natives is_open line cpu addr written p booted there ram =
+    let counted : counts 3 (codes "write" ∷ p.cpu_word ∷ p.addr_word ∷ p.hex_word ∷ []) ≡ true = rw p.words at p.counted in
+    let there_by : ltb (decimal p.cpu_word) scene.cpus ≡ true = rw p.cpu_is at there in
+    let ram_by : lies_in_ram (hexadecimal p.addr_word) (length (bytes p.hex_word)) ≡ true = rw (p.addr_is, p.written_is) at ram in
+    rw (p.text, p.told, p.words, counted, booted, p.cpu_form, p.addr_form, p.hex_form, ram_by, there_by) refl
+
+write_said : (line : List ℕ) (cpu addr : ℕ) (written : List ℕ) → IsPlainWrite line cpu addr written → said_in line ≡ says.Item (item.Write cpu addr written)
+unfolding said_in kind_named
+write_said line cpu addr written p = rw (p.told, p.words, p.cpu_is, p.addr_is, p.written_is) refl
+
+writes_says : (scene : SceneState) (line : List ℕ) (cpus : ℕ) (i : Item) → scene.is_booted ≡ true → cpus ≡ scene.cpus → Writes cpus line i → SaysItem scene line i
+writes_says scene line cpus (item.Write cpu addr written) booted count (p, there, ram) = record {
+  kept = λ natives is_open. write_kept scene natives is_open line cpu addr written p booted (rw count at there) ram;
+  said = write_said line cpu addr written p;
+}
+writes_says scene line cpus (item.Smc cpu steps regs) booted count w = absurd w
+writes_says scene line cpus (item.Enter cpu steps regs) booted count w = absurd w
+writes_says scene line cpus (item.Leave cpu) booted count w = absurd w
+writes_says scene line cpus (item.Show cpu addr len) booted count w = absurd w
+
+pub write_says : (scene : SceneState) (line : List ℕ) (cpus : ℕ) (result : Option Item) → scene.is_booted ≡ true → cpus ≡ scene.cpus → IfSome result (Writes cpus line) → IfSome result (SaysItem scene line)
+write_says scene line cpus None booted count w = tt
+write_says scene line cpus (Some i) booted count w = writes_says scene line cpus i booted count w

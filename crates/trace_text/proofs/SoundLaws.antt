@@ -1,6 +1,6 @@
 -- A trace that a text spells is within its limits: line by line.
-use Rattle.std.proofs.Common.{◌≡◌, ℕ, zero, suc, ◌+◌, ◌<◌, Bool, true, false, cond, eqb, ltb, List, [], ◌∷◌, ◌++◌, length, map, drop, replicate, Option, Some, None, refl, sym, subst, ◌∙◌, arith, length-drop}
-use Rattle.std.specs.Prelude.{not, All, IfNone, IfSome}
+use Rattle.std.proofs.Common.{◌≡◌, ℕ, zero, suc, ◌+◌, ◌<◌, Bool, true, false, cond, eqb, ltb, List, [], ◌∷◌, ◌++◌, length, map, drop, replicate, Option, Some, None, refl, sym, ap, subst, ◌∙◌, arith, length-drop}
+use Rattle.std.specs.Prelude.{not, ◌||◌, All, IfNone, IfSome}
 use Rattle.std.specs.List.{AllByRecursion, fold, list_all, list_any}
 use Rattle.std.specs.Str.{bytes_eq}
 use Rattle.std.proofs.Math.ListN.{length-set}
@@ -22,11 +22,12 @@ use Rattle.trace_text.specs.declared.line_kind.LineKind.TheVariants as kind
 use Rattle.trace_text.specs.declared.trace.Fill.{Fill}
 use Rattle.trace_text.specs.declared.trace.Trace.{Trace}
 use Rattle.trace_text.specs.Forms.{bytes, decimal, hexadecimal, register, uuid}
-use Rattle.trace_text.specs.Limits.{app_limits, boot_limits, Front, cpus_of, end_fault, first_broken, inside_after, is_inside, is_known, moved, no_front, no_key, outside}
+use Rattle.trace_text.specs.Limits.{app_limits, boot_limits, Front, cpus_of, end_fault, first_broken, inside_after, is_inside, is_known, moved, no_front, no_key, outside, uuids_of}
 use Rattle.trace_text.specs.Grammar.{Leads, Spells}
 use Rattle.text_lines.specs.Words.{words_of}
 use Rattle.text_lines.specs.Lines.{is_skipped}
-use Rattle.trace_text.specs.Rules.{added, added_by_kind, after_line, app_of, boot_of, call_rules, counts, cpu_rules, fill_of, is_text_byte, kind_named, line_rules, mem_rules, rules_behind, rules_of_kind, show_rules, word, words_behind, write_rules}
+use Rattle.trace_text.specs.Rules.{added, added_by_kind, after_line, app_of, call_rules, counts, cpu_rules, fill_of, is_text_byte, kind_named, line_rules, mem_rules, rules_behind, rules_of_kind, show_rules, size_of, word, words_behind, write_rules}
+use Rattle.trace_text.specs.Statement.{boot_of}
 use Rattle.trace_text.specs.Sound.{can_come, ComeInTurn, IsSound, IsSoundBoot, IsSoundCall, IsSoundFill, IsSoundItem}
 use Rattle.trace_text.proofs.SoundWords.{fails_at, in_ram, part_of_ram, sound_registers, valid_image, within}
 
@@ -37,7 +38,7 @@ IsKept rule = rule.1 ≡ true
 abbrev pub AreKept : List (BadKind × Bool) → Type 0
 AreKept rules = AllByRecursion IsKept rules
 
-one_kept : (kind : BadKind) (passed : Bool) (behind : Option BadKind) → cond passed behind (Some kind) ≡ None → (passed ≡ true) × (behind ≡ None)
+pub one_kept : (kind : BadKind) (passed : Bool) (behind : Option BadKind) → cond passed behind (Some kind) ≡ None → (passed ≡ true) × (behind ≡ None)
 one_kept kind true behind e = (refl, e)
 one_kept kind false behind e = absurd cc
 
@@ -69,13 +70,18 @@ sound_boot natives cpus threads frames (few_cpus, (few_threads, (few_frames, _))
       no_native = λ k d lt. absurd (omega arith);
     }
 
-pub sound_apps : (natives : List (List ℕ)) (boot : Boot) (id image : List ℕ) → AreKept (app_limits natives boot.apps id image) → IsValid (image_of image) → IsSoundBoot natives boot
+-- some application has this UUID
+pub any_uuid : (apps : List App) (id : List ℕ) → list_any (λ uuid. bytes_eq uuid id) (uuids_of apps) ≡ list_any (λ (app : App). bytes_eq app.uuid id) apps
+any_uuid [] id = refl
+any_uuid (app ∷ apps) id = ap (λ (b : Bool). bytes_eq app.uuid id || b) (any_uuid apps id)
+
+pub sound_apps : (natives : List (List ℕ)) (boot : Boot) (id image : List ℕ) → AreKept (app_limits natives (uuids_of boot.apps) id image) → IsValid (image_of image) → IsSoundBoot natives boot
     → IsSoundBoot natives (record boot { apps = boot.apps ++ record { uuid = id; image = image_of image } ∷ [] })
 unfolding is_known
 sound_apps natives boot id image (room, (new, _)) valid sound =
     let app : App = record { uuid = id; image = image_of image } in
-    let few = ltb-true (length boot.apps) 16 room in
-    let unknown = or_parts (list_any (λ a. bytes_eq a.uuid app.uuid) boot.apps) (list_any (λ native. bytes_eq native app.uuid) natives) (not-true _ new) in
+    let few = ltb-true (length (uuids_of boot.apps)) 16 room in
+    let unknown = or_parts (list_any (λ uuid. bytes_eq uuid id) (uuids_of boot.apps)) (list_any (λ native. bytes_eq native id) natives) (not-true _ new) in
     let was = sound.boots in
     record {
       boots = record {
@@ -85,9 +91,9 @@ sound_apps natives boot id image (room, (new, _)) valid sound =
         few_threads = was.few_threads;
         some_frame = was.some_frame;
         few_frames = was.few_frames;
-        few_apps = omega (arith, few, length-append boot.apps (app ∷ []));
+        few_apps = omega (arith, few, length-map boot.apps (λ (a : App). a.uuid), length-append boot.apps (app ∷ []));
         valid = All-push (λ a. IsValid a.image) boot.apps app was.valid valid;
-        apart = all_pairs_push (λ earlier later. not (bytes_eq earlier.uuid later.uuid) ≡ true) boot.apps app was.apart (fails_at (λ a. bytes_eq a.uuid app.uuid) boot.apps unknown.0);
+        apart = all_pairs_push (λ earlier later. not (bytes_eq earlier.uuid later.uuid) ≡ true) boot.apps app was.apart (fails_at (λ a. bytes_eq a.uuid app.uuid) boot.apps (sym (any_uuid boot.apps id) ∙ unknown.0));
       };
       no_native = All-push (λ a. not (list_any (λ native. bytes_eq native a.uuid) natives) ≡ true) boot.apps app sound.no_native (not_from_false _ unknown.1);
     }
@@ -225,7 +231,7 @@ Adds kind natives boot fills items keyed ws =
 after_boot : (natives : List (List ℕ)) (boot : Option Boot) (fills : List Fill) (items : List Item) (keyed : Bool) (ws : List (List ℕ)) → Adds kind.Boot natives boot fills items keyed ws
 unfolding rules_behind added
 after_boot natives None fills items keyed ws (_, said) count some so_far =
-    with_boot natives (boot_of (word ws 0) (word ws 1) (word ws 2)) fills items (sound_boot natives (decimal (word ws 0)) (decimal (word ws 1)) (decimal (word ws 2)) said.1.1.1) so_far
+    with_boot natives (boot_of (size_of (word ws 0) (word ws 1) (word ws 2))) fills items (sound_boot natives (decimal (word ws 0)) (decimal (word ws 1)) (decimal (word ws 2)) said.1.1.1) so_far
 after_boot natives (Some boot) fills items keyed ws (first, _) count some so_far = absurd cc
 
 after_ta : (natives : List (List ℕ)) (boot : Option Boot) (fills : List Fill) (items : List Item) (keyed : Bool) (ws : List (List ℕ)) → Adds kind.Ta natives boot fills items keyed ws
@@ -308,6 +314,7 @@ counted behind (first ∷ words) e =
 
 by_kind : (named : Option LineKind) (natives : List (List ℕ)) (before : Front) (words : List (List ℕ)) → first_broken (rules_of_kind named natives before words) ≡ None → IsSoFarOf natives before
     → IsSoFarOf natives (added_by_kind named before words)
+unfolding rules_behind
 by_kind None natives before words e so_far = absurd cc
 by_kind (Some kind) natives before words e so_far =
     let rules = are_kept (rules_of_kind (Some kind) natives before words) e in

@@ -63,7 +63,7 @@ sound_registers words e = All-from_recursion IsSoundReg (map register words) (so
 
 -- ---- bytes
 
-ok_is : (r : Result (List ℕ) FromHexError) → is_ok r ≡ true → r ≡ Ok (unwrap_or (result_ok r) [])
+pub ok_is : (r : Result (List ℕ) FromHexError) → is_ok r ≡ true → r ≡ Ok (unwrap_or (result_ok r) [])
 ok_is (Ok bs) e = refl
 ok_is (Err fault) e = absurd cc
 

@@ -1,11 +1,10 @@
 -- What a line says, by itself, and what follows from it: the lines so far with it, and their scene.
-use Rattle.std.specs.Prelude.{◌≡◌, ℕ, ◌<◌, ◌≤◌, List, [], ◌∷◌, ◌++◌, Bool, true, false, if◌then◌else◌, None, Some, Result, Ok, Err}
+use Rattle.std.specs.Prelude.{◌≡◌, ◌<◌, ◌≤◌, List, [], ◌∷◌, ◌++◌, Bool, true, false, ◌&&◌, not, if◌then◌else◌, None, Some, Result, Ok, Err}
 use Rattle.ta_isa.specs.declared.boot.Boot.{Boot}
 use Rattle.trace_text.specs.declared.fault.BadKind.{BadKind}
 use Rattle.trace_text.specs.declared.fault.LineFault.{LineFault}
 use Rattle.trace_text.specs.declared.fault.LineFault.TheVariants.{Broken, NoRoom}
 use Rattle.trace_text.specs.declared.item.Item.{Item}
-use Rattle.trace_text.specs.declared.item.Item.TheVariants as item
 use Rattle.trace_text.specs.declared.limits.Size.{Size}
 use Rattle.trace_text.specs.declared.statement.Statement.{Statement}
 use Rattle.trace_text.specs.declared.statement.Statement.TheVariants as says
@@ -41,8 +40,7 @@ scene_after scene (says.Signal value) = record scene { is_open = false }
 
 -- where a signal stands behind the trace, it closes what a boot is given, as an item does
 abbrev pub closed_if : Bool → SceneState → SceneState
-closed_if false scene = scene
-closed_if true scene = record scene { is_open = false }
+closed_if closed scene = record scene { is_open = not closed && scene.is_open }
 
 -- ---- where it stands
 
@@ -76,7 +74,7 @@ HasFewCpus (says.Signal value) = Unit {0}
 
 -- it was judged by these rules, behind what stands before: it keeps all of them, and says what leads from that to what stands
 -- after; or this is the first one that it breaks; or memory ran out
-abbrev pub IsJudgedBy : {S : Type 0} → (S → Statement → S) → Result Statement LineFault → List (BadKind × Bool) → S → S → Type 0
+abbrev pub IsJudgedBy : {S L : Type 0} → (S → L → S) → Result L LineFault → List (BadKind × Bool) → S → S → Type 0
 IsJudgedBy follow (Ok said) rules before after = (first_broken rules ≡ None) × (follow before said ≡ after)
 IsJudgedBy follow (Err (Broken kind)) rules before after = first_broken rules ≡ Some kind
 IsJudgedBy follow (Err NoRoom) rules before after = Unit {0}

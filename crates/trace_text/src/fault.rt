@@ -1,4 +1,4 @@
-ghost use Rattle.std.specs.Prelude.{◌≡◌, Some};
+ghost use Rattle.std.specs.Prelude.{◌≡◌, ◌↔◌, IsTrue, Some};
 ghost use Rattle.trace_text.specs.Fault.{kind_word, fault_text};
 ghost use Rattle.trace_text.specs.declared.fault.TraceFault.TheVariants.{Memory};
 ghost use Rattle.trace_text.specs.declared.fault.LineFault.TheVariants.{NoRoom};
@@ -137,6 +137,13 @@ impl LineFault {
             LineFault::Broken(kind) => TraceFault::Bad { place, kind },
             LineFault::NoRoom => TraceFault::Memory,
         }
+    }
+
+    /// Whether no line begins so.
+    pub fn is_unknown(self) -> bool
+        ensures { IsTrue result ↔ self ≡ LineFault.Broken BadKind.Item }
+    {
+        matches!(self, LineFault::Broken(BadKind::Item))
     }
 
     /// The fault of a line whose bytes are no image.

@@ -260,6 +260,8 @@ impl Scene {
         ensures in_place { IfOk result (IsInPlace (closed_if is_closed self.now)) }
         ensures few { IfOk result HasFewCpus }
     {
+        // For the proof: the boot has at most eight processors.
+        let _ = &self.cpus;
         if let Some(item) = self.plain_item(alloc, line) {
             return Ok(Statement::Item(item));
         }

@@ -28,7 +28,7 @@ fn with_place(mut inside: [bool; MAX_CPUS], cpu: u8, is_inside: bool) -> [bool; 
 #[derive(Drop)]
 pub struct Scene {
     /// How many processors there are, where a boot stands.
-    cpus: Option<u8>,
+    pub(crate) cpus: Option<u8>,
     /// The UUIDs of the applications in images.
     apps: Vec<Uuid>,
     has_key: bool,
@@ -96,7 +96,7 @@ impl Scene {
     pub(crate) fn is_open(&self, is_closed: bool) -> bool
         ensures { result ≡ (closed_if is_closed self.now).is_open }
     {
-        self.is_open && !is_closed
+        !is_closed && self.is_open
     }
 
     /// Whether a processor is inside.
