@@ -1,5 +1,5 @@
 use Rattle.std.proofs.Common.{◌≡◌, Err, None, Some, ap, sym, ◌∙◌}
-use Rattle.core_at_work.proofs.booting.core_of.Goals as goal
+use Rattle.core_at_work.proofs.booting.core_on.Goals as goal
 
 pub unreachable-requires : goal.unreachable-requires
 unreachable-requires g c =
