@@ -4,7 +4,7 @@ use Rattle.std.proofs.Math.Logic.{∥∥₁_elim, ∥∥₁_map}
 use Rattle.std.proofs.Props.{props}
 use Rattle.std.proofs.lemmas.List.{length-append}
 use Rattle.std.proofs.lemmas.Option.{slice_get-map, slice_get_within}
-use Rattle.std.specs.Prelude.{Err, IsSomeAnd, slice_get}
+use Rattle.std.specs.Prelude.{Ok, Err, IsSomeAnd, Result, slice_get}
 use Rattle.std.specs.List.{AllByRecursion-prop}
 use Rattle.std.specs.Option.{option_and_then, option_map}
 use Rattle.event_journal.specs.Journal.{copied_bytes}
@@ -16,7 +16,7 @@ use Rattle.kernel_model.specs.History.{kernel_after}
 use Rattle.kernel_model.specs.Kernel as kernel
 use Rattle.kernel_model.specs.Kernel.{Kernel, Outside}
 use Rattle.kernel_state.specs.Carried.{CanBeGranted}
-use Rattle.kernel_state.specs.Entering.{Enters, HasEntered, IsAsBefore, IsTooMuch, bytes_read, visit_of}
+use Rattle.kernel_state.specs.Entering.{CanEnter, Coming, Enters, HasEntered, IsAsBefore, IsTooMuch, bytes_read, visit_of}
 use Rattle.kernel_state.specs.Processors.{processor_of}
 use Rattle.kernel_state.specs.Replay.{Replays}
 use Rattle.kernel_state.specs.Setup.{booted_with}
@@ -31,7 +31,7 @@ use Rattle.kernel_state.specs.declared.work.Work.{Work}
 use Rattle.ns_ram.specs.Reads.{HoldsRead, HoldsReads, total_bytes}
 use Rattle.ns_ram.specs.declared.read.Read.{Read}
 use Rattle.kernel_entry.specs.Deciding.{decision_as}
-use Rattle.kernel_entry.specs.Entering.{HasMoreRoom, IsCarriedBy, IsDecidedBy, IsPrepared, IsTooMuchFor, Prepares}
+use Rattle.kernel_entry.specs.Entering.{HasMoreRoom, IsCarriedBy, IsDecidedBy, IsPrepared, IsTooMuchFor, Prepares, PreparesEntry}
 use Rattle.kernel_entry.specs.Visiting.{HasComeIn, StandsAfter, coming_of}
 use Rattle.kernel_entry.specs.declared.deciding.EntryDecision.{EntryDecision}
 use Rattle.kernel_entry.specs.declared.preparing.Prepared.{Prepared}
@@ -57,7 +57,7 @@ cpu_there parts cpu fact outside = ∥∥₁_elim fact (Prim.hlevel props) (λ (
     ∙ outside_of parts cpu so outside) in
     slice_get_within parts.processors.items cpu found.0 found.1)
 
-pub outside_still : (old new : Parts) (cpu : ℕ) → HasMoreRoom old new → IsOutside old cpu → IsOutside new cpu
+outside_still : (old new : Parts) (cpu : ℕ) → HasMoreRoom old new → IsOutside old cpu → IsOutside new cpu
 outside_still old new cpu more outside =
     subst (λ (found : Option Kernel). IsSomeAnd found (λ (k : Kernel). slice_get k.processors cpu ≡ Some Outside))
     (sym (ap₂ (λ setup (events : List Event). kernel_after (booted_with setup) events) (ap (λ (parts : Parts). parts.setup) more.stays) more.events)) outside
@@ -76,15 +76,15 @@ pub record Arrives (old new : Parts) (visitor : Visitor) (lane : List ℕ) (deci
   pub carries : (k : Kernel) → StandsFor old k → IsCarriedBy call (decision_as old k visitor.regs.a decided)
 
 -- it can come in, was prepared and let in
-pub arrives : (old mid new : Parts) (visitor : Visitor) (lane : List ℕ) (prepared : Prepared) (call : Carried) → IsOutside old visitor.cpu → 1 ≤ visitor.steps →
-    visitor.steps ≤ 1000000 → HasMoreRoom old mid → IsPrepared mid visitor.regs.a lane prepared → HasComeIn mid new visitor prepared.reads →
-    ((k : Kernel) → StandsAfter mid new visitor k (decision_as mid k visitor.regs.a prepared.decision)) →
-    ((k : Kernel) → StandsFor mid k → IsCarriedBy call (decision_as mid k visitor.regs.a prepared.decision)) →
-    Arrives mid new visitor lane prepared.decision prepared.reads call
-arrives old mid new visitor lane prepared call outside some few more is come stands carries = record {
-  outside = outside_still old mid visitor.cpu more outside;
-  some_steps = some;
-  few_steps = few;
+pub arrives : (old : Core) (new : Parts) (visitor : Visitor) (lane : List ℕ) (prepared : Prepared) (call : Carried) → CanEnter old (coming_of visitor) →
+    IsPrepared old.parts visitor.regs.a lane prepared → HasComeIn old.parts new visitor prepared.reads →
+    ((k : Kernel) → StandsAfter old.parts new visitor k (decision_as old.parts k visitor.regs.a prepared.decision)) →
+    ((k : Kernel) → StandsFor old.parts k → IsCarriedBy call (decision_as old.parts k visitor.regs.a prepared.decision)) →
+    Arrives old.parts new visitor lane prepared.decision prepared.reads call
+arrives old new visitor lane prepared call can is come stands carries = record {
+  outside = can.outside;
+  some_steps = can.some_steps;
+  few_steps = can.few_steps;
   decides = is.decides;
   few = is.few;
   come = come;
@@ -158,18 +158,40 @@ same_setup : (old new : Parts) → HasMoreRoom old new → new.setup ≡ old.set
 same_setup old new more = ap (λ (parts : Parts). parts.setup) more.stays
 
 -- the work is that of one event more
-pub has_entered : (old new : Core) (mid : Parts) (visitor : Visitor) (lane : List ℕ) (decided : EntryDecision) (reads : List Read) (work : Work) →
-    HasMoreRoom old.parts mid → Arrives mid new.parts visitor lane decided reads work.call → ∥ Replays mid ∥₁ → work.cpu ≡ visitor.cpu → work.steps ≡ visitor.steps →
-    work.entry_at ≡ length mid.journal.events → HasEntered old new (coming_of visitor) lane work
-has_entered old new mid visitor lane decided reads work more came fact cpu steps at = record {
-  boot = ap booted_with (came.come.setup ∙ same_setup old.parts mid more);
-  terms = ap (λ setup. setup.terms) (came.come.setup ∙ same_setup old.parts mid more);
+pub has_entered : (old new : Core) (visitor : Visitor) (lane : List ℕ) (decided : EntryDecision) (reads : List Read) (work : Work) →
+    Arrives old.parts new.parts visitor lane decided reads work.call → ∥ Replays old.parts ∥₁ → work.cpu ≡ visitor.cpu → work.steps ≡ visitor.steps →
+    work.entry_at ≡ length old.parts.journal.events → HasEntered old new (coming_of visitor) lane work
+has_entered old new visitor lane decided reads work came fact cpu steps at = record {
+  boot = ap booted_with came.come.setup;
+  terms = ap (λ setup. setup.terms) came.come.setup;
   reads = reads;
-  from_lane = arrived_reads mid new.parts visitor lane decided reads work.call came fact;
-  events = came.come.events ∙ ap (λ (events : List Event). events ++ Entry visitor.cpu visitor.regs visitor.steps reads ∷ []) more.events;
+  from_lane = arrived_reads old.parts new.parts visitor lane decided reads work.call came fact;
+  events = came.come.events;
   cpu = cpu;
-  entry_at = at ∙ ap (λ (events : List Event). length events) more.events;
-  fits = arrived_work mid new.parts visitor lane decided reads work.call came work cpu steps refl fact;
+  entry_at = at;
+  fits = arrived_work old.parts new.parts visitor lane decided reads work.call came work cpu steps refl fact;
+}
+
+-- and of one event more than before it had the room
+pub has_entered_with_room : (old mid new : Core) (coming : Coming) (lane : List ℕ) (work : Work) → HasMoreRoom old.parts mid.parts →
+    HasEntered mid new coming lane work → HasEntered old new coming lane work
+has_entered_with_room old mid new coming lane work more has = record {
+  boot = has.boot ∙ ap booted_with (same_setup old.parts mid.parts more);
+  terms = has.terms ∙ ap (λ setup. setup.terms) (same_setup old.parts mid.parts more);
+  reads = has.reads;
+  from_lane = has.from_lane;
+  events = has.events ∙ ap (λ (events : List Event). events ++ Entry coming.cpu coming.regs coming.steps has.reads ∷ []) more.events;
+  cpu = has.cpu;
+  entry_at = has.entry_at ∙ ap (λ (events : List Event). length events) more.events;
+  fits = has.fits;
+}
+
+-- a processor that could come in still can
+pub can_enter_with_room : (old mid : Core) (coming : Coming) → HasMoreRoom old.parts mid.parts → CanEnter old coming → CanEnter mid coming
+can_enter_with_room old mid coming more can = record {
+  outside = outside_still old.parts mid.parts coming.cpu more can.outside;
+  some_steps = can.some_steps;
+  few_steps = can.few_steps;
 }
 
 as_before : (old new : Core) (mid : Parts) → HasMoreRoom old.parts mid → new.parts ≡ mid → IsAsBefore old new
@@ -196,3 +218,9 @@ pub is_refused : (old new : Core) (mid : Parts) (visitor : Visitor) (lane : List
 is_refused old new mid visitor lane (Full copied more) room fact same too =
     (as_before old new mid room same, too_much old mid visitor lane copied more room fact too)
 is_refused old new mid visitor lane Memory room fact same too = as_before old new mid room same
+
+-- an entry that is prepared over the parts of a core is over the core
+pub prepares_entry : (old new : Core) (visitor : Visitor) (lane : List ℕ) (answer : Result Prepared EnterRefusal) → HasMoreRoom old.parts new.parts →
+    ∥ Replays new.parts ∥₁ → Prepares new.parts visitor.regs.a lane answer → PreparesEntry old new (coming_of visitor) lane answer
+prepares_entry old new visitor lane (Ok prepared) room fact prepares = prepares
+prepares_entry old new visitor lane (Err refusal) room fact refused = is_refused old new new.parts visitor lane refusal room fact refl refused

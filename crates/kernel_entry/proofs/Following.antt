@@ -205,6 +205,7 @@ can_go_on parts regs decided fact found =
     let slot = some_ok (slice_get parts.slots (thread_in regs)) (client_in regs) found.suspended in
     record {
       suspended = found.suspended;
+      slot = found.slot;
       beside = beside_there parts (thread_in regs) slot.0 fact slot.1;
       resumable = λ cont beside out there. ∥∥₁_map fact (λ (so : Replays parts). can_resume parts regs decided cont beside so out there);
       app = found.app;
@@ -239,5 +240,5 @@ call_found slots beside held regs are ok =
 
 pub can_follow : (parts : Parts) (regs : List ℕ) (of : EntryDecision) → ∥ Replays parts ∥₁ → HasBox parts.blanks of → HasFound parts regs of → CanFollow parts regs of
 can_follow parts regs (decision.Answers answer) fact blank found = tt
-can_follow parts regs (decision.Begins entered plan) fact blank found = can_take_slot parts entered plan fact blank found
-can_follow parts regs (decision.GoesOn decided) fact blank found = can_go_on parts regs decided.value fact found
+can_follow parts regs (decision.Begins call) fact blank found = can_take_slot parts call.value.entered call.value.plan fact blank found
+can_follow parts regs (decision.GoesOn decided) fact blank found = can_go_on parts regs decided fact found

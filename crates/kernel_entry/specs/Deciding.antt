@@ -9,6 +9,7 @@ use Rattle.kernel_model.specs.Entry.{decision_of}
 use Rattle.kernel_model.specs.Kernel.{Kernel, PendingCall}
 use Rattle.kernel_model.specs.Resume.{call_resumed_by}
 use Rattle.kernel_state.specs.Setup.{booted_with}
+use Rattle.kernel_state.specs.StandsFor.{StandsFor}
 use Rattle.kernel_state.specs.Tables.{tables_of}
 use Rattle.kernel_state.specs.declared.parts.Parts.{Parts}
 use Rattle.new_calls.specs.Applying.{CanApply}
@@ -18,6 +19,7 @@ use Rattle.new_calls.specs.declared.entered.Entered.{Entered}
 use Rattle.new_calls.specs.declared.plan.Plan.{Plan}
 use Rattle.ns_ram.specs.Reader.{Reader, over_lane}
 use Rattle.ns_ram.specs.declared.read.Read.{Read}
+use Rattle.resumed_calls.specs.Deciding as resumed
 use Rattle.resumed_calls.specs.Deciding.{IsAppIn}
 use Rattle.resumed_calls.specs.declared.deciding.Decided.{Decided}
 use Rattle.smc_abi.specs.Call.{call_of}
@@ -35,10 +37,10 @@ goes_on_in parts regs decided call = model.Takes (thread_in regs) (works_on (goe
 -- what was decided
 abbrev pub decision_as : Parts → Kernel → List ℕ → EntryDecision → Decision
 decision_as parts kernel regs (decision.Answers answer) = model.Answers answer
-decision_as parts kernel regs (decision.Begins entered plan) = model.Takes entered.slot
-    (taken_of (call_with (booted_with parts.setup) (tables_of parts.tables) entered) plan)
+decision_as parts kernel regs (decision.Begins call) = model.Takes call.value.entered.slot
+    (taken_of (call_with (booted_with parts.setup) (tables_of parts.tables) call.value.entered) call.value.plan)
 decision_as parts kernel regs (decision.GoesOn decided) =
-    option_map_or (goes_on_in parts regs decided.value) (call_resumed_by kernel.slots regs) (model.Answers eresume)
+    option_map_or (goes_on_in parts regs decided) (call_resumed_by kernel.slots regs) (model.Answers eresume)
 
 -- by what is read of the lane this reader comes to what was decided
 abbrev pub ComesTo : Parts → Kernel → List ℕ → Reader Decision → List ℕ → List Read → List Read → EntryDecision →
@@ -52,6 +54,13 @@ IsDecided parts kernel regs lane before after decided =
     let reader : Reader Decision = decision_of (booted_with parts.setup) kernel regs (call_of (reg regs 0)) in
     ComesTo parts kernel regs reader lane before after decided
 
+-- the kernel's call that goes on is given just this, by what is read of the lane
+abbrev pub IsGiven : Parts → List ℕ → List ℕ → List Read → List Read → EntryDecision → Type 0
+IsGiven parts regs lane before after (decision.Answers answer) = Unit {0}
+IsGiven parts regs lane before after (decision.Begins call) = Unit {0}
+IsGiven parts regs lane before after (decision.GoesOn decided) =
+    (kernel : Kernel) → StandsFor parts kernel → resumed.IsDecided kernel.slots regs lane before (Some decided) after
+
 -- ---- what was found
 
 -- a new call can take the slot for this plan: it is the lowest free one
@@ -63,10 +72,11 @@ pub record CanBegin (parts : Parts) (entered : Entered) (plan : Plan) : Type 0 w
 -- a call is suspended that can be resumed with this, and its application is the one that was found
 pub record CanContinue (parts : Parts) (regs : List ℕ) (decided : Decided) : Type 0 where
   pub suspended : IsSuspended parts.slots regs
+  pub slot : decided.slot ≡ thread_in regs
   pub app : IsAppIn (booted_with parts.setup) parts.slots regs (Some decided)
 
 -- what was found for what was decided
 abbrev pub HasFound : Parts → List ℕ → EntryDecision → Type 0
 HasFound parts regs (decision.Answers answer) = Unit {0}
-HasFound parts regs (decision.Begins entered plan) = CanBegin parts entered plan
-HasFound parts regs (decision.GoesOn decided) = CanContinue parts regs decided.value
+HasFound parts regs (decision.Begins call) = CanBegin parts call.value.entered call.value.plan
+HasFound parts regs (decision.GoesOn decided) = CanContinue parts regs decided

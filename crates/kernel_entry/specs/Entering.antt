@@ -5,19 +5,21 @@ use Rattle.kernel_model.specs.Decision as model
 use Rattle.kernel_model.specs.Decision.{Decision}
 use Rattle.kernel_model.specs.Kernel.{Kernel}
 use Rattle.kernel_state.specs.Blanks.{Boxes}
+use Rattle.kernel_state.specs.Entering.{Coming, Enters}
 use Rattle.kernel_state.specs.StandsFor.{StandsFor}
 use Rattle.kernel_state.specs.Work.{IsCarriedAs}
 use Rattle.kernel_state.specs.declared.carried.Carried.{Carried}
 use Rattle.kernel_state.specs.declared.carried.Carried.TheVariants.{Nothing}
 use Rattle.kernel_state.specs.declared.enter_refusal.EnterRefusal.{EnterRefusal}
 use Rattle.kernel_state.specs.declared.enter_refusal.EnterRefusal.TheVariants.{Full, Memory}
+use Rattle.kernel_state.specs.declared.kernel_core.Core.{Core}
 use Rattle.kernel_state.specs.declared.parts.Parts.{Parts}
 use Rattle.new_calls.specs.declared.entered.Entered.{Entered}
 use Rattle.new_calls.specs.declared.plan.Plan.{Plan}
 use Rattle.ns_ram.specs.Reads.{total_bytes}
 use Rattle.ns_ram.specs.declared.read.Read.{Read}
 use Rattle.kernel_entry.specs.Applying.{CanTake}
-use Rattle.kernel_entry.specs.Deciding.{CanBegin, HasFound, IsDecided}
+use Rattle.kernel_entry.specs.Deciding.{CanBegin, HasFound, IsDecided, IsGiven}
 use Rattle.kernel_entry.specs.Resuming.{CanGoOn}
 use Rattle.kernel_entry.specs.declared.deciding.EntryDecision.{EntryDecision}
 use Rattle.kernel_entry.specs.declared.deciding.EntryDecision.TheVariants as decision
@@ -40,12 +42,13 @@ IsDecidedBy parts regs lane reads decided =
 -- there is a box for a call that begins
 abbrev pub HasBox : Boxes → EntryDecision → Type 0
 HasBox boxes (decision.Answers answer) = Unit {0}
-HasBox boxes (decision.Begins entered plan) = 0 < boxes.kept
+HasBox boxes (decision.Begins call) = 0 < boxes.kept
 HasBox boxes (decision.GoesOn decided) = Unit {0}
 
 -- the event of an entry and its call have room, and the bytes that it has read are few enough
 pub record IsPrepared (parts : Parts) (regs lane : List ℕ) (prepared : Prepared) : Type 0 where
   pub decides : IsDecidedBy parts regs lane prepared.reads prepared.decision
+  pub given : IsGiven parts regs lane [] prepared.reads prepared.decision
   pub found : HasFound parts regs prepared.decision
   pub room : parts.setup.cpus < parts.journal.spare
   pub blank : HasBox parts.blanks prepared.decision
@@ -73,6 +76,16 @@ Prepares parts regs lane (Ok prepared) = IsPrepared parts regs lane prepared
 Prepares parts regs lane (Err (Full copied more)) = IsTooMuchFor parts regs lane copied more
 Prepares parts regs lane (Err Memory) = Unit {0}
 
+-- the same of a core, for a processor that is to come in
+abbrev pub PreparesEntry : Core → Core → Coming → List ℕ → Result (Prepared) EnterRefusal → Type 0
+PreparesEntry old new coming lane (Ok prepared) = IsPrepared new.parts coming.regs.a lane prepared
+PreparesEntry old new coming lane (Err refusal) = Enters old new coming lane (Err refusal)
+
+-- it was prepared, over some lane
+pub record WasPrepared (parts : Parts) (regs : List ℕ) (prepared : Prepared) : Type 0 where
+  pub lane : List ℕ
+  pub is : IsPrepared parts regs lane prepared
+
 -- ---- as it comes in
 
 -- the slot of a new call can be taken
@@ -85,8 +98,8 @@ pub record CanTakeSlot (parts : Parts) (entered : Entered) (plan : Plan) : Type 
 -- what was decided can be done
 abbrev pub CanFollow : Parts → List ℕ → EntryDecision → Type 0
 CanFollow parts regs (decision.Answers answer) = Unit {0}
-CanFollow parts regs (decision.Begins entered plan) = CanTakeSlot parts entered plan
-CanFollow parts regs (decision.GoesOn decided) = CanGoOn parts regs decided.value
+CanFollow parts regs (decision.Begins call) = CanTakeSlot parts call.value.entered call.value.plan
+CanFollow parts regs (decision.GoesOn decided) = CanGoOn parts regs decided
 
 -- what is carried is the call that the slot was taken for, or nothing
 abbrev pub IsCarriedBy : Carried → Decision → Type 0

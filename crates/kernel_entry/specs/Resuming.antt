@@ -41,6 +41,7 @@ IsResumable parts regs decided = (cont : Box (Cont (List ℕ))) (beside : Cancel
 -- the call that these registers name can go on with this
 pub record CanGoOn (parts : Parts) (regs : List ℕ) (decided : Decided) : Type 0 where
   pub suspended : IsSuspended parts.slots regs
+  pub slot : decided.slot ≡ thread_in regs
   pub beside : thread_in regs < length parts.cancellations.items
   pub resumable : IsResumable parts regs decided
   pub app : IsAppIn (booted_with parts.setup) parts.slots regs (Some decided)

@@ -14,6 +14,7 @@ ghost use Rattle.kernel_entry.specs.Applying.{CanTake, is_cancel};
 ghost use Rattle.kernel_entry.specs.Visiting.{HasComeIn, StandsAfter};
 
 use crate::carrying::carried_call;
+use crate::deciding::PlannedCall;
 use crate::plans::apply;
 use crate::taking::take_slot;
 use crate::visitor::{Visitor, let_in};
@@ -31,7 +32,35 @@ fn is_cancel(plan: &Plan) -> bool
 
 /// Lets a processor in for a new call, which takes the lowest free slot and fills a box. The parts stand for the
 /// kernel after it, and the processor carries the call that its slot works on.
+#[inline(never)]
 pub fn enter_new(
+    alloc: Global,
+    parts: &mut Parts,
+    visitor: Visitor,
+    call: Box<PlannedCall>,
+    reads: Reads,
+) -> Carried
+    requires cpu { visitor.cpu < length parts.old.processors.items }
+    requires room { parts.old.setup.cpus < parts.old.journal.spare }
+    requires few { copied_bytes parts.old.journal.events + total_bytes reads < 2 ^ 64 }
+    requires slot { lowest_free parts.old.slots ≡ Some call.value.entered.slot }
+    requires beside { call.value.entered.slot < length parts.old.cancellations.items }
+    requires plan { CanTake parts.old.tables call.value.entered call.value.plan }
+    requires blank { 0 < parts.old.blanks.kept }
+    ensures come { HasComeIn parts.old parts.new visitor reads }
+    ensures stands { CanApply (call_with (booted_with parts.old.setup) (tables_of parts.old.tables) call.value.entered) call.value.plan
+        → (kernel : Kernel) → StandsAfter parts.old parts.new visitor kernel (Takes call.value.entered.slot
+        (taken_of (call_with (booted_with parts.old.setup) (tables_of parts.old.tables) call.value.entered) call.value.plan)) }
+    ensures carries { CanApply (call_with (booted_with parts.old.setup) (tables_of parts.old.tables) call.value.entered) call.value.plan
+        → (let taken = taken_of (call_with (booted_with parts.old.setup) (tables_of parts.old.tables) call.value.entered) call.value.plan in
+        IsCarriedAs result taken.call taken.call.phase) }
+{
+    let PlannedCall { entered, plan } = Box::into_inner(call);
+    enter_with(alloc, parts, visitor, entered, plan, reads)
+}
+
+/// The same, of a call that brings this along, for this plan.
+fn enter_with(
     alloc: Global,
     parts: &mut Parts,
     visitor: Visitor,

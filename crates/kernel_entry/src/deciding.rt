@@ -8,7 +8,7 @@ ghost use Rattle.kernel_state.specs.StandsFor.{StandsFor};
 ghost use Rattle.kernel_state.specs.Tables.{HasFreePages, tables_of};
 ghost use Rattle.new_calls.specs.Applying.{HaveApps};
 ghost use Rattle.resumed_calls.specs.Deciding.{CanDecide};
-ghost use Rattle.kernel_entry.specs.Deciding.{ComesTo, HasFound, IsDecided};
+ghost use Rattle.kernel_entry.specs.Deciding.{ComesTo, HasFound, IsDecided, IsGiven};
 
 use base::NoMemory;
 use kernel_state::Parts;
@@ -17,15 +17,23 @@ use ns_ram::{Lane, Reads};
 use smc_abi::{Answer, Call, ERESUME, Regs, UNKNOWN_FUNCTION, decode_call, fast_answer};
 use std::alloc::Global;
 
-/// What an entry comes to, with all memory that this takes.
+/// A new call, and what its slot is taken for.
 #[derive(Drop)]
-pub(crate) enum EntryDecision {
+pub struct PlannedCall {
+    pub entered: Entered,
+    pub plan: Plan,
+}
+
+/// What an entry comes to, with all memory that this takes. What a new call has copied stands apart, so that no other entry
+/// has room for it.
+#[derive(Drop)]
+pub enum EntryDecision {
     /// This answer, which takes no slot and changes nothing.
     Answers(Answer),
-    /// A new call takes its slot for this plan.
-    Begins(Entered, Plan),
+    /// A new call takes its slot for its plan.
+    Begins(Box<PlannedCall>),
     /// The call that the registers name goes on with this.
-    GoesOn(Box<resumed_calls::Decided>),
+    GoesOn(resumed_calls::Decided),
 }
 
 /// What is decided of a call with these registers. All that it reads is listed.
@@ -41,6 +49,7 @@ pub(crate) fn decide(
     requires apps { HaveApps (booted_with parts.now.setup) (tables_of parts.now.tables) }
     ensures decides { (kernel : Kernel) → StandsFor parts.now kernel
         → IfOk result (IsDecided parts.now kernel regs.now.a lane.now reads.old reads.new) }
+    ensures given { IfOk result (IsGiven parts.now regs.now.a lane.now reads.old reads.new) }
     ensures found { IfOk result (HasFound parts.now regs.now.a) }
 {
     match decode_call(regs) {
@@ -57,6 +66,7 @@ pub(crate) fn decide(
 }
 
 /// What is decided of a new call.
+#[inline(never)]
 fn decide_new(
     alloc: Global,
     parts: &Parts,
@@ -69,6 +79,7 @@ fn decide_new(
     ensures decides { (kernel : Kernel) → StandsFor parts.now kernel
         → IfOk result (ComesTo parts.now kernel regs.now.a (new_call (booted_with parts.now.setup) kernel regs.now.a)
         lane.now reads.old reads.new) }
+    ensures given { IfOk result (IsGiven parts.now regs.now.a lane.now reads.old reads.new) }
     ensures found { IfOk result (HasFound parts.now regs.now.a) }
 {
     let free = lowest_free(&parts.slots);
@@ -80,11 +91,15 @@ fn decide_new(
     let decided = new_call(alloc, &found, regs, lane, reads)?;
     match decided {
         new_calls::Decided::Answers(answer) => Ok(EntryDecision::Answers(answer)),
-        new_calls::Decided::Takes(entered, plan) => Ok(EntryDecision::Begins(entered, plan)),
+        new_calls::Decided::Takes(entered, plan) => {
+            let call = Box::new(alloc, PlannedCall { entered, plan })?;
+            Ok(EntryDecision::Begins(call))
+        }
     }
 }
 
 /// What is decided of a resume.
+#[inline(never)]
 fn decide_resume(
     alloc: Global,
     parts: &Parts,
@@ -96,16 +111,12 @@ fn decide_resume(
     ensures decides { (kernel : Kernel) → StandsFor parts.now kernel
         → IfOk result (ComesTo parts.now kernel regs.now.a (resume (booted_with parts.now.setup) kernel regs.now.a)
         lane.now reads.old reads.new) }
+    ensures given { IfOk result (IsGiven parts.now regs.now.a lane.now reads.old reads.new) }
     ensures found { IfOk result (HasFound parts.now regs.now.a) }
 {
     let call = resumed_calls::decide(alloc, &parts.setup, &parts.slots, regs, lane, reads)?;
     match call {
-        Some(decided) => {
-            let Ok(boxed) = Box::new(alloc, decided) else {
-                return Err(NoMemory);
-            };
-            Ok(EntryDecision::GoesOn(boxed))
-        }
+        Some(decided) => Ok(EntryDecision::GoesOn(decided)),
         None => Ok(EntryDecision::Answers(code(ERESUME))),
     }
 }

@@ -1,18 +1,18 @@
 //! A processor comes in.
-ghost use Rattle.std.specs.Prelude.{◌≡◌, ◌+◌, ◌<◌, ◌^◌, length};
+ghost use Rattle.std.specs.Prelude.{◌≡◌, ℕ, ◌+◌, ◌<◌, ◌^◌, List, length};
 ghost use Rattle.event_journal.specs.Journal.{copied_bytes};
 ghost use Rattle.kernel_model.specs.Kernel.{Kernel};
-ghost use Rattle.kernel_state.specs.Entering.{CanEnter, Enters};
+ghost use Rattle.kernel_state.specs.Entering.{CanEnter, Enters, HasEntered};
 ghost use Rattle.kernel_state.specs.StandsFor.{StandsFor};
 ghost use Rattle.ns_ram.specs.Reads.{total_bytes};
 ghost use Rattle.kernel_entry.specs.Deciding.{decision_as};
-ghost use Rattle.kernel_entry.specs.Entering.{CanFollow, IsCarriedBy};
+ghost use Rattle.kernel_entry.specs.Entering.{CanFollow, HasMoreRoom, IsCarriedBy, IsPrepared, PreparesEntry, WasPrepared};
 ghost use Rattle.kernel_entry.specs.Visiting.{HasComeIn, StandsAfter, coming_of};
 
 use crate::beginning::enter_new;
 use crate::deciding::EntryDecision;
 use crate::fixed::enter_fixed;
-use crate::preparing::{Prepared, prepare};
+use crate::preparing::{Prepared, prepare_parts};
 use crate::resuming::enter_resumed;
 use crate::visitor::Visitor;
 use event_log::Log;
@@ -28,10 +28,10 @@ fn next_place(journal: &Log) -> u64
     journal.len()
 }
 
-/// Lets a processor in for what was decided. The parts stand for the kernel after that, and the processor carries the
-/// call of its slot, if it has one.
+/// Does what was decided. The parts stand for the kernel after that, and the processor carries the call of its slot, if it
+/// has one.
 #[inline(always)]
-fn come_in(
+fn follow(
     alloc: Global,
     parts: &mut Parts,
     visitor: Visitor,
@@ -53,15 +53,45 @@ fn come_in(
             enter_fixed(parts, visitor, answer, reads);
             Carried::Nothing
         }
-        EntryDecision::Begins(entered, plan) => {
-            enter_new(alloc, parts, visitor, entered, plan, reads)
-        }
+        EntryDecision::Begins(call) => enter_new(alloc, parts, visitor, call, reads),
         EntryDecision::GoesOn(decided) => enter_resumed(parts, visitor, decided, reads),
     }
 }
 
-/// A processor comes in: what its registers ask for is decided, with all memory that this takes, and then done. Where
-/// it is refused the core is as it was.
+/// Prepares an entry: what the visitor's registers ask for is decided by the core and the lane, and all memory of the entry
+/// is taken. The core stays as it is, but has more room. Where the entry is refused the core is as it was.
+pub fn prepare(
+    alloc: Global,
+    core: &mut Core,
+    visitor: &Visitor,
+    lane: &Lane,
+) -> Result<Prepared, EnterRefusal>
+    ensures prepares { PreparesEntry core.old core.new (coming_of visitor.now) lane.now result }
+    ensures room { HasMoreRoom core.old.parts core.new.parts }
+{
+    prepare_parts(alloc, &mut core.parts, &visitor.regs, lane)
+}
+
+/// Lets a processor in for what was prepared for its registers. Takes no memory, and can't fail.
+pub fn admit(alloc: Global, core: &mut Core, visitor: Visitor, prepared: Prepared) -> Work
+    requires can { CanEnter core.old (coming_of visitor) }
+    requires prepared { WasPrepared core.old.parts visitor.regs.a prepared }
+    ensures { (lane : List ℕ) → IsPrepared core.old.parts visitor.regs.a lane prepared
+        → HasEntered core.old core.new (coming_of visitor) lane result }
+{
+    let Prepared { decision, reads } = prepared;
+    let entry_at = next_place(&core.parts.journal);
+    let call = follow(alloc, &mut core.parts, visitor, decision, reads);
+    let Visitor { cpu, steps, .. } = visitor;
+    Work {
+        cpu,
+        entry_at,
+        steps,
+        call,
+    }
+}
+
+/// A processor comes in: its entry is prepared, and it is let in. Where it is refused the core is as it was.
 pub fn enter(
     alloc: Global,
     core: &mut Core,
@@ -71,15 +101,6 @@ pub fn enter(
     requires { CanEnter core.old (coming_of visitor) }
     ensures { Enters core.old core.new (coming_of visitor) lane.now result }
 {
-    let prepared = prepare(alloc, &mut core.parts, &visitor.regs, lane)?;
-    let Prepared { decision, reads } = prepared;
-    let entry_at = next_place(&core.parts.journal);
-    let call = come_in(alloc, &mut core.parts, visitor, decision, reads);
-    let Visitor { cpu, steps, .. } = visitor;
-    Ok(Work {
-        cpu,
-        entry_at,
-        steps,
-        call,
-    })
+    let prepared = prepare(alloc, core, &visitor, lane)?;
+    Ok(admit(alloc, core, visitor, prepared))
 }

@@ -1,4 +1,4 @@
-//! A processor comes in: `enter`.
+//! A processor comes in: `enter`, or `prepare` and then `admit`, between which what was decided can be read.
 //!
 //! What its registers ask for is decided first, over parts and a lane that are lent to read: an answer that is fixed,
 //! a new call, or a call that is resumed. All memory is taken there. Then the processor is let into the parts of the
@@ -26,8 +26,10 @@ mod waiting;
 
 pub use beginning::enter_new;
 pub use carrying::total_bytes;
-pub use entering::enter;
+pub use deciding::{EntryDecision, PlannedCall};
+pub use entering::{admit, enter, prepare};
 pub use fixed::enter_fixed;
 pub use plans::apply;
+pub use preparing::Prepared;
 pub use resuming::enter_resumed;
 pub use visitor::{Visitor, make_room};

@@ -18,16 +18,16 @@ use ns_ram::{Lane, Reads};
 use smc_abi::Regs;
 use std::alloc::Global;
 
-/// An entry that was decided, and what it has read.
+/// An entry that is prepared: what was decided, and what was read for that.
 #[derive(Drop)]
-pub(crate) struct Prepared {
-    pub(crate) decision: EntryDecision,
-    pub(crate) reads: Reads,
+pub struct Prepared {
+    pub decision: EntryDecision,
+    pub reads: Reads,
 }
 
 /// Decides an entry, and makes room for it, for its call and for the exits of all processors. All memory of an entry is
 /// taken here.
-pub(crate) fn prepare(
+pub(crate) fn prepare_parts(
     alloc: Global,
     parts: &mut Parts,
     regs: &Regs,

@@ -26,15 +26,6 @@ use rpc_cont::Cont;
 use smc_abi::Regs;
 use thread_slots::Slots;
 
-/// The slot that the registers name, in which a call is suspended for their client.
-fn slot_named(slots: &Slots<Box<Cont<Pages>>>, regs: &Regs) -> u8
-    requires { IsSuspended slots.now regs.now.a }
-    ensures { result ≡ thread_in regs.now.a }
-{
-    let _count = slots.count();
-    regs.a[3] as u8
-}
-
 /// Hands the call of that slot out, which is active on this processor then.
 fn hand_out(slots: &mut Slots<Box<Cont<Pages>>>, regs: &Regs, cpu: u8) -> Box<Cont<Pages>>
     requires { IsSuspended slots.old regs.now.a }
@@ -57,17 +48,16 @@ fn is_marked(besides: &[Cancellation], slot: u8) -> bool
 
 /// Resumes the call that the registers name: it is out with this processor, and has come as far as its resume takes
 /// it.
-fn go_on(parts: &mut Parts, regs: &Regs, cpu: u8, decided: Box<Decided>) -> Box<Cont<Pages>>
-    requires { CanGoOn parts.old regs.now.a decided.value }
+fn go_on(parts: &mut Parts, regs: &Regs, cpu: u8, decided: Decided) -> Box<Cont<Pages>>
+    requires { CanGoOn parts.old regs.now.a decided }
     ensures slots { parts.new.slots ≡ slice_set parts.old.slots (thread_in regs.now.a) (Active cpu) }
-    ensures call { HasGoneOn parts.old regs.now.a decided.value parts.new.tables result.value }
+    ensures call { HasGoneOn parts.old regs.now.a decided parts.new.tables result.value }
     ensures pages { HasFreePages parts.old.setup parts.new.tables }
     ensures stays { parts.new ≡ record parts.old { slots = parts.new.slots; tables = parts.new.tables } }
 {
-    let slot = slot_named(&parts.slots, regs);
+    let Decided { slot, given, app } = decided;
     let marked = is_marked(parts.cancellations.as_slice(), slot);
     let mut cont = hand_out(&mut parts.slots, regs, cpu);
-    let Decided { given, app } = Box::into_inner(decided);
     let resumed = Resumed {
         slot,
         marked,
@@ -80,26 +70,22 @@ fn go_on(parts: &mut Parts, regs: &Regs, cpu: u8, decided: Box<Decided>) -> Box<
 
 /// Lets a processor in for the call that its registers name, which goes on with this. The parts stand for the kernel
 /// after it, and the processor carries what the call has come to.
-pub fn enter_resumed(
-    parts: &mut Parts,
-    visitor: Visitor,
-    decided: Box<Decided>,
-    reads: Reads,
-) -> Carried
+#[inline(never)]
+pub fn enter_resumed(parts: &mut Parts, visitor: Visitor, decided: Decided, reads: Reads) -> Carried
     requires cpu { visitor.cpu < length parts.old.processors.items }
     requires room { parts.old.setup.cpus < parts.old.journal.spare }
     requires few { copied_bytes parts.old.journal.events + total_bytes reads < 2 ^ 64 }
-    requires goes_on { CanGoOn parts.old visitor.regs.a decided.value }
+    requires goes_on { CanGoOn parts.old visitor.regs.a decided }
     ensures come { HasComeIn parts.old parts.new visitor reads }
     ensures stands { (kernel : Kernel) (call : PendingCall) → call_resumed_by kernel.slots visitor.regs.a ≡ Some call
         → StandsAfter parts.old parts.new visitor kernel
-        (Takes (thread_in visitor.regs.a) (works_on (goes_on_as parts.old visitor.regs.a decided.value call))) }
+        (Takes (thread_in visitor.regs.a) (works_on (goes_on_as parts.old visitor.regs.a decided call))) }
     ensures carries { (kernel : Kernel) (call : PendingCall) → StandsFor parts.old kernel
         → call_resumed_by kernel.slots visitor.regs.a ≡ Some call
-        → (let progress = goes_on_as parts.old visitor.regs.a decided.value call in
+        → (let progress = goes_on_as parts.old visitor.regs.a decided call in
         IsCarriedAs result progress.call progress.call.phase) }
 {
-    let slot = slot_named(&parts.slots, &visitor.regs);
+    let slot = decided.slot;
     let cont = go_on(parts, &visitor.regs, visitor.cpu, decided);
     let_in(parts, visitor, Errand::InSlot(slot), reads);
     carried_call(cont)

@@ -2,6 +2,7 @@
 use Rattle.std.proofs.Common.{◌≡◌, ℕ, List, Option, Some, None, sym, ◌∙◌, ap₂, subst, ◌==◌, Bool, true, false, ap}
 use Rattle.std.specs.Prelude.{slice_get, Ok, Err, if◌then◌else◌, Result}
 use Rattle.std.specs.Global.{Box}
+use Rattle.std.specs.Result.{IsOk, is_ok}
 use Rattle.kernel_model.specs.Argument.{client_in, thread_in}
 use Rattle.kernel_model.specs.Kernel.{PendingCall, ThreadSlot}
 use Rattle.kernel_model.specs.Kernel as model
@@ -11,6 +12,7 @@ use Rattle.kernel_state.specs.StandsFor.{AreSlots, IsSlotAt}
 use Rattle.kernel_state.specs.declared.cancellation.Cancellation.{Cancellation}
 use Rattle.rpc_cont.specs.declared.cont.Cont.{Cont}
 use Rattle.thread_slots.specs.Slot.{resumed_from}
+use Rattle.thread_slots.specs.Slots.{resumed}
 use Rattle.thread_slots.specs.declared.bad_resume.BadResume.{BadResume}
 use Rattle.thread_slots.specs.declared.bad_resume.BadResume.TheVariants.{OtherClient}
 use Rattle.thread_slots.specs.declared.slot.Slot.{Slot}
@@ -84,3 +86,10 @@ pub not_handed_out : (slots : List (Slot (Box (Cont (List ℕ))))) (regs : List 
 not_handed_out slots regs slot client refusal is_slot is_client is cont handed =
     let both : Err refusal ≡ Ok cont = sym is ∙ ap₂ (λ (at by : ℕ). resumed_from (slice_get slots at) by) is_slot is_client ∙ handed in
     absurd cc
+
+-- one is, where its slot was found
+pub is_suspended : (slots : List (Slot (Box (Cont (List ℕ))))) (regs : List ℕ) (slot client : ℕ) (found : Box (Cont (List ℕ))) →
+    slot ≡ thread_in regs → client ≡ client_in regs → resumed_from (slice_get slots slot) client ≡ Ok found →
+    IsOk (resumed slots (thread_in regs) (client_in regs))
+is_suspended slots regs slot client found is_slot is_client is =
+    ap is_ok (ap₂ (λ (at by : ℕ). resumed_from (slice_get slots at) by) (sym is_slot) (sym is_client) ∙ is)

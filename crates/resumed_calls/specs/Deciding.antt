@@ -41,6 +41,11 @@ IsDecided held regs lane before None after = (call_resumed_by held regs ≡ None
 IsDecided held regs lane before (Some decided) after =
     IsSomeAnd (call_resumed_by held regs) (IsDecidedFor regs lane before decided after)
 
+-- what is decided is for the call of the slot that the registers name
+abbrev pub IsInSlot : List ℕ → Option (Decided) → Type 0
+IsInSlot regs None = Unit {0}
+IsInSlot regs (Some decided) = decided.slot ≡ thread_in regs
+
 -- this call is handed out to the client
 abbrev pub IsHandedOut : List (Slot (Box (Cont (List ℕ)))) → List ℕ → Box (Cont (List ℕ)) → Type 0
 IsHandedOut slots regs cont = resumed slots (thread_in regs) (client_in regs) ≡ Ok cont

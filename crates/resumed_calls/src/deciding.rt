@@ -5,10 +5,10 @@ ghost use Rattle.kernel_state.specs.Setup.{booted_with};
 ghost use Rattle.kernel_state.specs.StandsFor.{AreSlots};
 ghost use Rattle.kernel_state.specs.declared.cancellation.Cancellation.{Cancellation as AnyCancellation};
 ghost use Rattle.rpc_cont.specs.Conts.{uuid_of};
-ghost use Rattle.resumed_calls.specs.Deciding.{CanDecide, IsAppIn, IsDecided};
+ghost use Rattle.resumed_calls.specs.Deciding.{CanDecide, IsAppIn, IsDecided, IsInSlot};
 ghost use Rattle.resumed_calls.specs.Waiting.{IsAppFor};
 
-use crate::finding::call_resumed_by;
+use crate::finding::{call_resumed_by, slot_named};
 use crate::giving::given_to;
 use base::NoMemory;
 use frame_pool::Pages;
@@ -23,6 +23,8 @@ use uuid::Uuid;
 /// What a resume decides for the call of its slot.
 #[derive(Drop)]
 pub struct Decided {
+    /// The slot.
+    pub slot: u8,
     /// What it is given.
     pub given: ResumeInput,
     /// The application of a call that waits for its instance, if the core has that.
@@ -42,15 +44,17 @@ pub fn decide(
     requires { ∥ CanDecide slots.now regs.now.a ∥₁ }
     ensures ok { (beside : List AnyCancellation) (held : List ThreadSlot) → AreSlots slots.now beside held → IfOk result (λ decided.
         IsDecided held regs.now.a lane.now reads.old decided reads.new) }
+    ensures slot { IfOk result (IsInSlot regs.now.a) }
     ensures app { IfOk result (IsAppIn (booted_with setup.now) slots.now regs.now.a) }
     ensures err { OnErr result (reads.new ≡ reads.old) }
 {
     let Some(cont) = call_resumed_by(slots, regs) else {
         return Ok(None);
     };
+    let slot = slot_named(slots, regs);
     let app = app_of_waiting(setup, cont)?;
     let given = given_to(alloc, regs, regs.a[3], cont, lane, reads)?;
-    Ok(Some(Decided { given, app }))
+    Ok(Some(Decided { slot, given, app }))
 }
 
 /// The application of a call that waits for its instance, if the core has that.

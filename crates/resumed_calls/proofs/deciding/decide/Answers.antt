@@ -14,7 +14,7 @@ given_to-requires c = can_be_given c.args.slots.now c.args.regs.now.a c.in-Some.
 pub returns-clause-ok : goal.returns-clause-ok
 returns-clause-ok c =
     is_decided c.args.slots.now c.args.regs.now.a c.args.lane.now (thread_in c.args.regs.now.a) c.in-Some.cont.now
-    (record { given = c.in_ok-given.given; app = c.in_ok-app.app }) c.args.reads.now c.given_to.new.reads refl c.in-Some.ensures.call
+    (record { slot = c.slot_named-slot.result; given = c.in_ok-given.given; app = c.in_ok-app.app }) c.args.reads.now c.given_to.new.reads refl c.in-Some.ensures.call
     c.in_ok-given.ensures.ok
 
 pub returns-clause-app : goal.returns-clause-app

@@ -1,12 +1,12 @@
-use Rattle.std.proofs.Common.{◌≡◌, Err, List, ap, arith, subst, sym}
+use Rattle.std.proofs.Common.{◌≡◌, Err, List, [], ap, arith, subst, sym}
 use Rattle.std.proofs.lemmas.Result.{err_from_is_err_and}
 use Rattle.event_journal.specs.Journal.{copied_bytes}
 use Rattle.kernel_state.specs.declared.parts.Parts.{Parts}
 use Rattle.ns_ram.specs.declared.read.Read.{Read}
-use Rattle.kernel_entry.proofs.Readying.{decided_boxed, found_boxed, too_much}
-use Rattle.kernel_entry.specs.Deciding.{IsDecided}
+use Rattle.kernel_entry.proofs.Readying.{decided_boxed, found_boxed, given_boxed, too_much}
+use Rattle.kernel_entry.specs.Deciding.{IsDecided, IsGiven}
 use Rattle.kernel_entry.specs.Entering.{IsDecidedBy, IsPrepared, Prepares}
-use Rattle.kernel_entry.proofs.preparing.prepare.Goals as goal
+use Rattle.kernel_entry.proofs.preparing.prepare_parts.Goals as goal
 
 pub returns-in_err-make_ready-clause-prepares : goal.returns-in_err-make_ready-clause-prepares
 returns-in_err-make_ready-clause-prepares c =
@@ -30,6 +30,9 @@ returns-clause-prepares c =
     subst (λ (parts : Parts). IsPrepared parts c.args.regs.now.a c.args.lane.now (record { decision = c.in-Ok-decide.decision; reads = c.decide.new.reads })) (sym c.make_ready.ensures.stays)
     (record {
       decides = decided_boxed parts boxes c.args.regs.now.a c.args.lane.now c.decide.new.reads c.in-Ok-decide.decision decides;
+      given = given_boxed parts boxes c.args.regs.now.a c.args.lane.now [] c.decide.new.reads c.in-Ok-decide.decision
+          (subst (λ (before : List Read). IsGiven parts c.args.regs.now.a c.args.lane.now before c.decide.new.reads c.in-Ok-decide.decision)
+          c.new-reads.ensures c.in-Ok-decide.ensures.given);
       found = found_boxed parts boxes c.args.regs.now.a c.in-Ok-decide.decision c.in-Ok-decide.ensures.found;
       room = omega (arith, c.in-Ok.ensures.room);
       blank = c.in_ok-make_ready.ensures.boxed;
