@@ -1,5 +1,5 @@
 -- A line of a trace with signals beside the same line of a trace: a line that is no signal's has one rule more.
-use Rattle.std.proofs.Common.{◌≡◌, ℕ, Bool, true, false, cond, List, [], ◌∷◌, Option, Some, None, Result, Ok, Err, refl, sym, ap, ◌∙◌}
+use Rattle.std.proofs.Common.{◌≡◌, ℕ, Bool, true, false, cond, List, [], ◌∷◌, Option, Some, None, refl, sym, ap, ◌∙◌}
 use Rattle.std.specs.Prelude.{◌||◌, not, drop}
 use Rattle.std.specs.List.{list_all}
 use Rattle.text_lines.specs.Lines.{is_skipped}
@@ -7,66 +7,15 @@ use Rattle.text_lines.specs.Words.{words_of}
 use Rattle.trace_text.specs.Forms.{decimal}
 use Rattle.line_grammar.specs.Grammar as grammar
 use Rattle.trace_text.specs.Grammar.{piece_fault as trace_fault}
-use Rattle.trace_text.specs.Judging.{IsTaken}
 use Rattle.trace_text.specs.Limits.{Front, first_broken}
 use Rattle.trace_text.specs.Rules.{added_by_kind, counts, is_text_byte, kind_named, rules_behind, rules_of_kind, word, words_behind}
 use Rattle.trace_text.specs.Rules.{after_line as after_trace_line, line_rules as trace_rules}
 use Rattle.trace_text.specs.declared.fault.BadKind.{BadKind}
 use Rattle.trace_text.specs.declared.fault.BadKind.TheVariants as bad
-use Rattle.trace_text.specs.declared.fault.LineFault.{LineFault}
-use Rattle.trace_text.specs.declared.fault.LineFault.TheVariants.{Broken, NoRoom}
 use Rattle.trace_text.specs.declared.line_kind.LineKind.{LineKind}
 use Rattle.notify_text.specs.Grammar.{piece_fault}
-use Rattle.notify_text.specs.Judging.{header_fault, late_fault}
 use Rattle.notify_text.specs.Rules.{NotifyFront, after_line, has_no_signal, is_header, is_signal, line_rules, other_rules, rules_of_words, signal_rules, with_line, with_signal}
-use Rattle.notify_text.specs.declared.notify_trace.Signal.{Signal}
-
--- a trace and signals
-abbrev pub told_of : Front → List Signal → NotifyFront
-told_of told signals = record { trace = told; signals = signals }
-
--- the trace among the signals before is this one
-abbrev pub with_trace : NotifyFront → Front → NotifyFront
-with_trace before told = record before { trace = told }
-
--- ---- plain line of the header stands behind a signal
-
-place-kept : (none header counted : Bool)
-    → cond none None (cond header (cond counted (Some bad.Place) (Some bad.Count)) None) ≡ None
-    → (none || not header) ≡ true
-place-kept true header counted e = refl
-place-kept false false counted e = refl
-place-kept false true true e = absurd cc
-place-kept false true false e = absurd cc
-
-place-broken : (none header counted : Bool) (rest : Option BadKind) (kind : BadKind)
-    → cond none None (cond header (cond counted (Some bad.Place) (Some bad.Count)) None) ≡ Some kind
-    → cond counted (cond (none || not header) rest (Some bad.Place)) (Some bad.Count) ≡ Some kind
-place-broken true header counted rest kind e = absurd cc
-place-broken false false counted rest kind e = absurd cc
-place-broken false true true rest kind e = e
-place-broken false true false rest kind e = e
-
-other-same : (named : Option LineKind) (natives : List (List ℕ)) (before : NotifyFront) (words : List (List ℕ))
-    → cond (has_no_signal before.signals) None (header_fault named words) ≡ None
-    → first_broken (other_rules named natives before words) ≡ first_broken (rules_of_kind named natives before.trace words)
-other-same None natives before words e = refl
-other-same (Some kind) natives before words e =
-    ap (λ (p : Bool). first_broken ((bad.Count, counts (words_behind kind) words) ∷ (bad.Place, p)
-    ∷ rules_behind kind natives before.trace (drop 1 words)))
-    (place-kept (has_no_signal before.signals) (is_header kind) (counts (words_behind kind) words) e)
-
-other-late : (named : Option LineKind) (natives : List (List ℕ)) (before : NotifyFront) (words : List (List ℕ))
-    (kind : BadKind) → cond (has_no_signal before.signals) None (header_fault named words) ≡ Some kind
-    → first_broken (other_rules named natives before words) ≡ Some kind
-other-late None natives before words kind e = no_fault (has_no_signal before.signals) e
-  where
-    no_fault : (none : Bool) → cond none None None ≡ Some kind → Some bad.Item ≡ Some kind
-    no_fault true e = absurd cc
-    no_fault false e = absurd cc
-other-late (Some kind) natives before words fault e =
-    place-broken (has_no_signal before.signals) (is_header kind) (counts (words_behind kind) words)
-    (first_broken (rules_behind kind natives before.trace (drop 1 words))) fault e
+use Rattle.notify_text.specs.Statement.{with_trace}
 
 -- a rule more is a rule more
 one-more : (counted place : Bool) (rest : Option BadKind)
@@ -79,10 +28,19 @@ one-more false place rest e = absurd cc
 other-kept : (named : Option LineKind) (natives : List (List ℕ)) (before : NotifyFront) (words : List (List ℕ))
     → first_broken (other_rules named natives before words) ≡ None
     → first_broken (rules_of_kind named natives before.trace words) ≡ None
+unfolding rules_behind
 other-kept None natives before words e = e
 other-kept (Some kind) natives before words e =
     one-more (counts (words_behind kind) words) (has_no_signal before.signals || not (is_header kind))
     (first_broken (rules_behind kind natives before.trace (drop 1 words))) e
+
+-- where no signal stands
+other-alone : (named : Option LineKind) (natives : List (List ℕ)) (before : Front) (words : List (List ℕ))
+    → first_broken (other_rules named natives (record { trace = before; signals = [] }) words)
+    ≡ first_broken (rules_of_kind named natives before words)
+unfolding rules_behind
+other-alone None natives before words = refl
+other-alone (Some kind) natives before words = refl
 
 -- ---- the rules of a line by its words
 
@@ -93,19 +51,6 @@ words-other natives before words plain =
     ap (λ (b : Bool). first_broken (cond b (signal_rules before words)
     (other_rules (kind_named (word words 0)) natives before words))) plain
 
-words-signal : (natives : List (List ℕ)) (before : NotifyFront) (words : List (List ℕ)) → is_signal words ≡ true
-    → first_broken (rules_of_words natives before words) ≡ first_broken (signal_rules before words)
-words-signal natives before words is =
-    ap (λ (b : Bool). first_broken (cond b (signal_rules before words)
-    (other_rules (kind_named (word words 0)) natives before words))) is
-
-words-same : (natives : List (List ℕ)) (before : NotifyFront) (words : List (List ℕ)) → is_signal words ≡ false
-    → late_fault before words ≡ None
-    → first_broken (rules_of_words natives before words)
-    ≡ first_broken (rules_of_kind (kind_named (word words 0)) natives before.trace words)
-words-same natives before words plain late =
-    words-other natives before words plain ∙ other-same (kind_named (word words 0)) natives before words late
-
 -- behind two rules, unless the line is skipped
 behind_two : (one two : BadKind × Bool) (skipped : Bool) (rules others : List (BadKind × Bool))
     → first_broken rules ≡ first_broken others
@@ -114,15 +59,16 @@ behind_two one two true rules others e = refl
 behind_two one two false rules others e =
     ap (λ (o : Option BadKind). cond one.1 (cond two.1 o (Some two.0)) (Some one.0)) e
 
--- a line that is no signal's, and none of the header behind a signal
-pub rules-same : (natives : List (List ℕ)) (before : NotifyFront) (ended : Bool) (line : List ℕ)
-    → is_signal (words_of line) ≡ false → late_fault before (words_of line) ≡ None
-    → first_broken (line_rules natives before ended line) ≡ first_broken (trace_rules natives before.trace ended line)
-unfolding line_rules trace_rules
-rules-same natives before ended line plain late =
-    behind_two (bad.Byte, list_all is_text_byte line) (bad.Cut, ended) (is_skipped line) (rules_of_words natives before (words_of line))
-    (rules_of_kind (kind_named (word (words_of line) 0)) natives before.trace (words_of line))
-    (words-same natives before (words_of line) plain late)
+-- a line that is no signal's, where no signal stands
+pub rules-alone : (natives : List (List ℕ)) (before : Front) (ended : Bool) (line : List ℕ)
+    → is_signal (words_of line) ≡ false
+    → first_broken (line_rules natives (record { trace = before; signals = [] }) ended line) ≡ first_broken (trace_rules natives before ended line)
+unfolding line_rules trace_rules rules_behind
+rules-alone natives before ended line plain =
+    let alone : NotifyFront = record { trace = before; signals = [] } in
+    behind_two (bad.Byte, list_all is_text_byte line) (bad.Cut, ended) (is_skipped line) (rules_of_words natives alone (words_of line))
+    (rules_of_kind (kind_named (word (words_of line) 0)) natives before (words_of line))
+    (words-other natives alone (words_of line) plain ∙ other-alone (kind_named (word (words_of line) 0)) natives before (words_of line))
 
 -- the rules of the words decide, where the bytes may stand and the line isn't skipped
 by-words : (text skipped : Bool) (rules : List (BadKind × Bool)) → text ≡ true → skipped ≡ false
@@ -199,51 +145,3 @@ pub end-same : (natives : List (List ℕ)) (before : NotifyFront) (rest : List �
 unfolding grammar.piece_fault line_rules trace_rules
 end-same natives before [] = refl
 end-same natives before (b ∷ bytes) = refl
-
--- ---- what the reader says of a line
-
-pub bad-byte : (natives : List (List ℕ)) (before : NotifyFront) (line : List ℕ) → list_all is_text_byte line ≡ false
-    → first_broken (line_rules natives before true line) ≡ Some bad.Byte
-unfolding line_rules
-bad-byte natives before line other =
-    ap (λ (b : Bool). first_broken ((bad.Byte, b) ∷ (bad.Cut, true)
-    ∷ cond (is_skipped line) [] (rules_of_words natives before (words_of line)))) other
-
-pub skipped-kept : (natives : List (List ℕ)) (before : NotifyFront) (line : List ℕ) → list_all is_text_byte line ≡ true
-    → is_skipped line ≡ true → first_broken (line_rules natives before true line) ≡ None
-unfolding line_rules
-skipped-kept natives before line text is =
-    ap (λ (b : Bool). first_broken ((bad.Byte, b) ∷ (bad.Cut, true)
-    ∷ cond (is_skipped line) [] (rules_of_words natives before (words_of line)))) text
-    ∙ ap (λ (b : Bool). first_broken (cond b [] (rules_of_words natives before (words_of line)))) is
-
-pub late-broken : (natives : List (List ℕ)) (before : NotifyFront) (line : List ℕ) (kind : BadKind)
-    → list_all is_text_byte line ≡ true → is_skipped line ≡ false → is_signal (words_of line) ≡ false
-    → late_fault before (words_of line) ≡ Some kind → first_broken (line_rules natives before true line) ≡ Some kind
-late-broken natives before line kind text some plain late =
-    rules-by-words natives before line text some ∙ words-other natives before (words_of line) plain
-    ∙ other-late (kind_named (word (words_of line) 0)) natives before (words_of line) kind late
-
-pub signal-taken : (natives : List (List ℕ)) (before after : NotifyFront) (line : List ℕ) (result : Result Unit LineFault)
-    → list_all is_text_byte line ≡ true → is_skipped line ≡ false → is_signal (words_of line) ≡ true
-    → IsTaken result (signal_rules before (words_of line)) (with_signal before (decimal (word (words_of line) 1))) after
-    → IsTaken result (line_rules natives before true line) (after_line before line) after
-signal-taken natives before after line (Ok done) text some is taken = (
-  rules-by-words natives before line text some ∙ words-signal natives before (words_of line) is ∙ taken.0,
-  taken.1 ∙ sym (after-signal before line some is),
-)
-signal-taken natives before after line (Err (Broken kind)) text some is taken =
-    rules-by-words natives before line text some ∙ words-signal natives before (words_of line) is ∙ taken
-signal-taken natives before after line (Err NoRoom) text some is taken = tt
-
-pub other-taken : (natives : List (List ℕ)) (before : NotifyFront) (after : Front) (line : List ℕ)
-    (result : Result Unit LineFault) → is_signal (words_of line) ≡ false → late_fault before (words_of line) ≡ None
-    → IsTaken result (trace_rules natives before.trace true line) (after_trace_line before.trace line) after
-    → IsTaken result (line_rules natives before true line) (after_line before line) (with_trace before after)
-other-taken natives before after line (Ok done) plain late taken = (
-  rules-same natives before true line plain late ∙ taken.0,
-  ap (with_trace before) taken.1 ∙ sym (after-same before line plain),
-)
-other-taken natives before after line (Err (Broken kind)) plain late taken =
-    rules-same natives before true line plain late ∙ taken
-other-taken natives before after line (Err NoRoom) plain late taken = tt

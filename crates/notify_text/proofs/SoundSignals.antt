@@ -22,10 +22,11 @@ use Rattle.trace_text.proofs.SoundLaws.{IsSoFarOf, all_lines, at_first, at_last}
 use Rattle.trace_text.proofs.SoundWords.{within}
 use Rattle.notify_text.specs.Grammar.{Leads, Spells}
 use Rattle.notify_text.specs.Rules.{NotifyFront, after_line, is_signal, line_rules, no_lines, signal_rules, with_signal}
+use Rattle.notify_text.specs.Statement.{HasBootOfSignals, with_trace}
 use Rattle.notify_text.specs.Sound.{AreInOrder, IsSoundSignal, IsSoundTold}
 use Rattle.notify_text.specs.declared.notify_trace.NotifyTrace.{NotifyTrace}
 use Rattle.notify_text.specs.declared.notify_trace.Signal.{Signal}
-use Rattle.notify_text.proofs.Lines.{after-same, after-signal, after-skipped, kept-of-trace, with_trace}
+use Rattle.notify_text.proofs.Lines.{after-same, after-signal, after-skipped, kept-of-trace}
 
 -- what the lines so far have led to
 record IsSoFarTold (natives : List (List ℕ)) (told : NotifyFront) : Type 0 where
@@ -149,6 +150,10 @@ kept-signal-line natives before line some is e =
     kept-signal before (words_of line)
     (rules-signal _ (is_skipped line) (is_signal (words_of line)) (signal_rules before (words_of line)) _ some is e)
 
+booted-none : (boot : Option Boot) (signals : List Signal) → is_some boot ≡ true → IfNone boot (signals ≡ [])
+booted-none (Some boot) signals e = tt
+booted-none None signals e = absurd cc
+
 so_far-signal : (natives : List (List ℕ)) (before : NotifyFront) (value : ℕ) → IsKeptSignal before value
     → IsSoFarTold natives before → IsSoFarTold natives (with_signal before value)
 so_far-signal natives before value kept so_far =
@@ -156,18 +161,34 @@ so_far-signal natives before value kept so_far =
     let signal : Signal = record { at = items; value = value } in
     record {
       trace = so_far.trace;
-      no_boot = booted before.trace.boot (before.signals ++ signal ∷ []) kept.boots;
+      no_boot = booted-none before.trace.boot (before.signals ++ signal ∷ []) kept.boots;
       signals = All-push (IsSoundSignal items) before.signals signal so_far.signals
           (record { some = kept.some; few = kept.few; there = omega arith });
       in_order = all_pairs_push (λ (earlier later : Signal). earlier.at ≤ later.at) before.signals signal so_far.in_order
           (λ k d lt. (so_far.signals k d lt).there);
     }
-  where
-    booted : (boot : Option Boot) (signals : List Signal) → is_some boot ≡ true → IfNone boot (signals ≡ [])
-    booted (Some boot) signals e = tt
-    booted None signals e = absurd cc
 
 -- ---- lines
+
+-- a signal stands behind a boot there too
+boot-where : (natives : List (List ℕ)) (before : NotifyFront) (line : List ℕ) (skipped signal : Bool)
+    → is_skipped line ≡ skipped → is_signal (words_of line) ≡ signal
+    → first_broken (line_rules natives before true line) ≡ None → HasBootOfSignals before
+    → HasBootOfSignals (after_line before line)
+boot-where natives before line true signal is e kept has = subst HasBootOfSignals (sym (after-skipped before line is)) has
+boot-where natives before line false true is e kept has =
+    let signal : Signal = record { at = length before.trace.items; value = decimal (word (words_of line) 1) } in
+    subst HasBootOfSignals (sym (after-signal before line is e))
+    (booted-none before.trace.boot (before.signals ++ signal ∷ []) (kept-signal-line natives before line is e kept).boots)
+boot-where natives before line false false is e kept has =
+    subst HasBootOfSignals (sym (after-same before line e))
+    (none-there before.trace.boot (after_trace_line before.trace line).boot before.signals (grows-line before.trace line).boot has)
+
+pub boot-stays : (natives : List (List ℕ)) (before : NotifyFront) (line : List ℕ)
+    → first_broken (line_rules natives before true line) ≡ None → HasBootOfSignals before
+    → HasBootOfSignals (after_line before line)
+boot-stays natives before line kept has =
+    boot-where natives before line (is_skipped line) (is_signal (words_of line)) refl refl kept has
 
 so_far-any : (natives : List (List ℕ)) (before : NotifyFront) (line : List ℕ) (skipped signal : Bool)
     → is_skipped line ≡ skipped → is_signal (words_of line) ≡ signal

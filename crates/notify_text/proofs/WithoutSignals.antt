@@ -14,7 +14,7 @@ use Rattle.trace_text.specs.declared.fault.BadKind.{BadKind}
 use Rattle.notify_text.specs.Grammar.{AreTraces, IsFirstFault, Leads, is_no_signal, piece_fault, without_signals}
 use Rattle.notify_text.specs.Rules.{NotifyFront, after_line, is_signal, line_rules, told_in}
 use Rattle.notify_text.specs.declared.notify_trace.NotifyTrace.{NotifyTrace}
-use Rattle.notify_text.proofs.Lines.{after-same, rules-same}
+use Rattle.notify_text.proofs.Lines.{after-same, rules-alone}
 
 -- the lines so far of a trace, and no signals
 abbrev no_signals : Front → NotifyFront
@@ -29,7 +29,7 @@ is_false false e = refl
 rules_as_trace : (natives : List (List ℕ)) (before : Front) (ended : Bool) (line : List ℕ) → is_no_signal line ≡ true
     → first_broken (line_rules natives (no_signals before) ended line) ≡ first_broken (trace_rules natives before ended line)
 rules_as_trace natives before ended line plain =
-    rules-same natives (no_signals before) ended line (is_false (is_signal (words_of line)) plain) refl
+    rules-alone natives before ended line (is_false (is_signal (words_of line)) plain)
 
 after_as_trace : (before : Front) (line : List ℕ) → is_no_signal line ≡ true
     → after_line (no_signals before) line ≡ no_signals (after_trace_line before line)

@@ -1,18 +1,18 @@
--- What the private functions of the reader answer, in the words of the rules.
-use Rattle.std.specs.Prelude.{ℕ, List, if◌then◌else◌, Option, Some, None}
-use Rattle.notify_text.specs.Rules.{NotifyFront, has_no_signal, is_header}
-use Rattle.trace_text.specs.Rules.{counts, kind_named, word, words_behind}
+-- What the private functions of the judge answer, in the words of the rules.
+use Rattle.std.specs.Prelude.{ℕ, List, [], ◌∷◌, Bool}
+use Rattle.notify_text.specs.Rules.{is_signal}
+use Rattle.trace_text.specs.Forms.{decimal, is_decimal}
+use Rattle.trace_text.specs.Limits.{is_within}
+use Rattle.trace_text.specs.Rules.{counts, word}
 use Rattle.trace_text.specs.declared.fault.BadKind.{BadKind}
 use Rattle.trace_text.specs.declared.fault.BadKind.TheVariants as bad
-use Rattle.trace_text.specs.declared.line_kind.LineKind.{LineKind}
 
--- the fault behind a signal of a line of this kind
-abbrev pub header_fault : Option LineKind → List (List ℕ) → Option BadKind
-header_fault None words = None
-header_fault (Some kind) words =
-    if is_header kind then (if counts (words_behind kind) words then Some bad.Place else Some bad.Count) else None
-
--- the fault of a line of the header, by its words, where a signal stands
-abbrev pub late_fault : NotifyFront → List (List ℕ) → Option BadKind
-late_fault before words =
-    if has_no_signal before.signals then None else header_fault (kind_named (word words 0)) words
+-- the rules of a line that begins none of a trace: it is a signal's, behind a boot or not
+abbrev pub other_line : Bool → List (List ℕ) → List (BadKind × Bool)
+other_line booted words =
+    (bad.Item, is_signal words)
+    ∷ (bad.Count, counts 1 words)
+    ∷ (bad.Place, booted)
+    ∷ (bad.Number, is_decimal (word words 1))
+    ∷ (bad.Range, is_within 1 63 (decimal (word words 1)))
+    ∷ []

@@ -1,5 +1,5 @@
 -- What a line of a trace with signals adds by what it says, and what the rules of the next one look at.
-use Rattle.std.specs.Prelude.{◌≡◌, [], ◌∷◌, ◌++◌, Bool, false, ◌&&◌, Some, IfNone}
+use Rattle.std.specs.Prelude.{◌≡◌, [], ◌∷◌, ◌++◌, false, ◌&&◌, Some, IfNone}
 use Rattle.notify_text.specs.Rules.{NotifyFront, has_no_signal, with_signal}
 use Rattle.trace_text.specs.Limits.{Front, SceneState, has_no_item, keyed_with, with_app, with_item}
 use Rattle.trace_text.specs.Limits as trace
@@ -24,6 +24,10 @@ with_statement before (says.Signal value) = with_signal before value
 -- the scene of these lines: a signal closes what a boot is given, as an item does
 abbrev pub scene_of : NotifyFront → SceneState
 scene_of front = record (trace.scene_of front.trace) { is_open = has_no_item front.trace.items && has_no_signal front.signals }
+
+-- a signal stands behind a boot
+abbrev pub HasBootOfSignals : NotifyFront → Type 0
+HasBootOfSignals front = IfNone front.trace.boot (front.signals ≡ [])
 
 -- what stands before the boot
 pub record IsEmpty (front : NotifyFront) : Type 0 where

@@ -1,96 +1,24 @@
 //! Reading the text of a trace with signals.
 
-ghost use Rattle.std.specs.Prelude.{◌≡◌, ℕ, ◌<◌, ◌^◌, ◌+◌, ◌⊎◌, ◌∷◌, [], List, length, true, false, Ok, Err, IfOk, IfErr};
+ghost use Rattle.std.specs.Prelude.{◌≡◌, ℕ, ◌<◌, ◌^◌, ◌+◌, ◌⊎◌, [], List, length, not, true, Ok, Err, IfOk, IfErr};
 ghost use Rattle.notify_text.specs.Grammar.{IsFaultOf, IsFirstFault, Spells, piece_fault};
-ghost use Rattle.notify_text.specs.Judging.{header_fault, late_fault};
-ghost use Rattle.notify_text.specs.Rules.{after_line, is_header, is_signal, line_rules, no_lines, signal_rules, told_in, with_signal};
+ghost use Rattle.notify_text.specs.Rules.{after_line, has_no_signal, line_rules, no_lines, told_in};
 ghost use Rattle.notify_text.specs.Sound.{IsSoundTold};
+ghost use Rattle.notify_text.specs.Statement.{HasBootOfSignals, scene_of, with_statement};
 ghost use Rattle.notify_text.specs.declared.notify_trace.NotifyTrace.{NotifyTrace};
-ghost use Rattle.text_lines.specs.Words.{words_of};
-ghost use Rattle.trace_text.specs.Forms.{decimal, is_decimal};
 ghost use Rattle.trace_text.specs.Grammar.{IsPlacedIn};
-ghost use Rattle.trace_text.specs.Judging.{IsEnded, IsPut, IsTaken, Judged};
-ghost use Rattle.trace_text.specs.Limits.{is_within};
-ghost use Rattle.trace_text.specs.Rules.{counts, kind_named, word};
+ghost use Rattle.trace_text.specs.Judging.{IsEnded, IsPut, IsTaken};
+ghost use Rattle.trace_text.specs.Statement.{HasFewCpus, IsInPlace};
 ghost use Rattle.trace_text.specs.declared.fault.BadKind.{BadKind};
 
+use crate::judging::judge_line;
 use crate::notify_trace::{NotifyTrace, Signal};
 use base::Sequence;
 use std::alloc::Global;
 use std::marker::Model;
-use text_lines::{Words, is_skipped, split_line};
-use trace_text::limits::is_within;
-use trace_text::{BadKind, Builder, LineFault, LineKind, TraceFault, has_words, is_text, number};
+use text_lines::split_line;
+use trace_text::{BadKind, Builder, LineFault, Statement, TraceFault};
 use uuid::Uuid;
-
-/// The first word of the line of a signal.
-const SIGNAL: &[u8] = b"signal";
-
-/// The greatest value that the hardware signals.
-const MAX_VALUE: u32 = 63;
-
-/// The first word of a line.
-fn first_word(line: &[u8]) -> &[u8]
-    ensures { result.now ≡ word (words_of line.now) 0 }
-{
-    let mut words = Words::of(line);
-    words.word()
-}
-
-/// Whether a line is that of a signal.
-fn is_signal(line: &[u8]) -> bool
-    ensures { result ≡ is_signal (words_of line.now) }
-{
-    first_word(line) == SIGNAL
-}
-
-/// The second word of a line that has two.
-fn second_word(line: &[u8]) -> &[u8]
-    requires { counts 1 (words_of line.now) ≡ true }
-    ensures { result.now ≡ word (words_of line.now) 1 }
-{
-    let mut words = Words::of(line);
-    let _first = words.word();
-    words.word()
-}
-
-/// The value of a signal, by its word.
-fn value_of(word: &[u8]) -> Result<u32, LineFault>
-    ensures { Judged (λ value. value) result
-        ((BadKind.Number, is_decimal word.now) ∷ (BadKind.Range, is_within 1 63 (decimal word.now)) ∷ [])
-        (decimal word.now) }
-{
-    let value = number(word)?;
-    if !is_within(1, MAX_VALUE, value) {
-        return Err(LineFault::Broken(BadKind::Range));
-    }
-    Ok(value)
-}
-
-/// Whether lines of this kind are of the header.
-fn is_header(kind: LineKind) -> bool
-    ensures { result ≡ is_header kind }
-{
-    matches!(
-        kind,
-        LineKind::Boot | LineKind::Ta | LineKind::Mem | LineKind::Key
-    )
-}
-
-/// The fault that a line has behind a signal if it is one of the header.
-fn header_fault(line: &[u8]) -> Option<BadKind>
-    ensures { result ≡ header_fault (kind_named (word (words_of line.now) 0)) (words_of line.now) }
-{
-    let kind = LineKind::named(first_word(line))?;
-    if !is_header(kind) {
-        return None;
-    }
-    if has_words(line, kind.words_behind()) {
-        Some(BadKind::Place)
-    } else {
-        Some(BadKind::Count)
-    }
-}
 
 /// The trace and the signals that the lines so far give.
 #[derive(Drop)]
@@ -118,57 +46,35 @@ impl Reader {
         }
     }
 
-    /// Adds a signal behind the items so far.
-    fn push_signal(&mut self, value: u32) -> Result<(), LineFault>
-        ensures { IsPut result (with_signal self.old value) self.new }
+    /// Whether a signal closes what a boot is given.
+    fn is_closed(&self) -> bool
+        ensures { result ≡ not (has_no_signal self.now.signals) }
     {
-        let at = self.builder.item_count();
-        self.signals.push(Signal { at, value })?;
-        Ok(())
+        !self.signals.is_empty()
     }
 
-    /// A line `signal`.
-    fn take_signal(&mut self, line: &[u8]) -> Result<(), LineFault>
-        ensures { IsTaken result (signal_rules self.old (words_of line.now))
-            (with_signal self.old (decimal (word (words_of line.now) 1))) self.new }
+    /// Adds what a line says that keeps its rules.
+    fn push(&mut self, said: Statement) -> Result<(), LineFault>
+        requires place { IsInPlace (scene_of self.old) said }
+        requires few { HasFewCpus said }
+        ensures { IsPut result (with_statement self.old said) self.new }
     {
-        if !has_words(line, 1) {
-            return Err(LineFault::Broken(BadKind::Count));
+        if let Statement::Signal(value) = said {
+            let at = self.builder.item_count();
+            self.signals.push(Signal { at, value })?;
+            return Ok(());
         }
-        if self.builder.cpus().is_none() {
-            return Err(LineFault::Broken(BadKind::Place));
-        }
-        let value = value_of(second_word(line))?;
-        self.push_signal(value)
-    }
-
-    /// The fault of a line of the header that stands behind a signal.
-    fn late_fault(&self, line: &[u8]) -> Option<BadKind>
-        ensures { result ≡ late_fault self.now (words_of line.now) }
-    {
-        if self.signals.is_empty() {
-            return None;
-        }
-        header_fault(line)
+        self.builder.push(said)
     }
 
     /// Takes a line, which is given without its line feed.
     fn take(&mut self, alloc: Global, natives: &[Uuid], line: &[u8]) -> Result<(), LineFault>
+        requires { HasBootOfSignals self.old }
         ensures { IsTaken result (line_rules natives.now self.old true line.now) (after_line self.old line.now) self.new }
     {
-        if !is_text(line) {
-            return Err(LineFault::Broken(BadKind::Byte));
-        }
-        if is_skipped(line) {
-            return Ok(());
-        }
-        if is_signal(line) {
-            return self.take_signal(line);
-        }
-        if let Some(kind) = self.late_fault(line) {
-            return Err(LineFault::Broken(kind));
-        }
-        self.builder.take(alloc, natives, line)
+        let is_closed = self.is_closed();
+        let said = judge_line(alloc, natives, self.builder.scene(), is_closed, line)?;
+        self.push(said)
     }
 
     /// The trace with its signals, where the text ends with these bytes behind its last line feed.

@@ -1,4 +1,4 @@
-use Rattle.std.proofs.Common.{arith, length, ◌∷◌, ap, true, refl, Ok, Err}
+use Rattle.std.proofs.Common.{arith, length, ◌∷◌, ap, true, refl, sym, subst, Ok, Err}
 use Rattle.std.proofs.lemmas.List.{length-append}
 use Rattle.line_grammar.specs.Reading.{read_pieces}
 use Rattle.line_grammar.proofs.Pieces.{ends_badly, goes_on}
@@ -7,7 +7,9 @@ use Rattle.trace_text.specs.Grammar.{pieces_of}
 use Rattle.notify_text.specs.Grammar.{signal_lines}
 use Rattle.notify_text.specs.Rules.{after_line, line_rules, no_lines}
 use Rattle.trace_text.proofs.Answered.{ends, placed_in, stops}
+use Rattle.notify_text.specs.Statement.{HasBootOfSignals}
 use Rattle.notify_text.proofs.Meanings.{answer_read}
+use Rattle.notify_text.proofs.SoundSignals.{boot-stays}
 use Rattle.notify_text.proofs.reading.read_notify_trace.Goals as goal
 
 pub returns-in-Err : goal.returns-in-Err
@@ -21,6 +23,7 @@ loop-line-preserved c = record {
   so_far =
       goes_on (signal_lines c.args.natives.now) c.loop-line.place c.loop-line.reader c.take.new.self c.loop-line.rest.now c.in-Some.line.now c.in-Some.after.now (read_pieces (signal_lines c.args.natives.now) 1 no_lines (pieces_of c.args.text.now))
       c.in-Some.ensures c.in_default-take.ensures c.loop-line.invariant.so_far;
+  booted = subst HasBootOfSignals (sym c.in_default-take.ensures.1) (boot-stays c.args.natives.now c.loop-line.reader c.in-Some.line.now c.in_default-take.ensures.0 c.loop-line.invariant.booted);
   few = omega (arith, c.loop-line.invariant.few, ap length c.in-Some.ensures.1, length-append c.in-Some.line.now (10 ∷ c.in-Some.after.now));
 }
 
