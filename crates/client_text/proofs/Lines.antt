@@ -170,7 +170,7 @@ pub trace_by_kind : (natives : List (List ℕ)) (before : Front) (line : List �
     → counts (words_behind kind) (words_of line) ≡ true
     → first_broken (trace_rules natives before true line)
     ≡ first_broken (rules_behind kind natives before (drop 1 (words_of line)))
-unfolding trace_rules
+unfolding trace_rules rules_behind
 trace_by_kind natives before line kind text some named counted =
     by_words (list_all is_text_byte line) (is_skipped line)
     (rules_of_kind (kind_named (word (words_of line) 0)) natives before (words_of line)) text some

@@ -17,7 +17,7 @@ use Rattle.event_journal.specs.declared.event.Event.{Event}
 use Rattle.event_journal.specs.declared.event.Event.TheVariants.{Entry, Exit}
 use Rattle.event_journal.specs.Event.{copied_by}
 use Rattle.trace_text.specs.declared.fault.BadKind.TheVariants as bad
-use Rattle.trace_text.specs.Limits.{first_broken, Front, is_image, is_known, is_within, no_key}
+use Rattle.trace_text.specs.Limits.{first_broken, Front, is_image, is_known, is_within, no_key, uuids_of}
 use Rattle.trace_bin.specs.declared.record_kind.RecordKind.TheVariants as trace
 use Rattle.trace_bin.specs.Record.{is_whole as is_whole_body, kind_tagged as trace_tagged, number}
 use Rattle.trace_bin.specs.Rules.{added as trace_added, after_record as after_trace, behind_record as behind_trace, record_rules as trace_rules, rules_of as trace_rules_of}
@@ -56,7 +56,7 @@ boot_told natives cpus threads frames rest c0 c1 t0 t1 f0 f1 =
     record { kept = read.kept; adds = ap header read.adds; behind = read.behind }
 
 pub app_told : (natives : List (List ℕ)) (boot : Boot) (app : App) (rest : List ℕ) → length app.uuid ≡ 16 → 0 < length (image_spelling app.image) → length (image_spelling app.image) < 2 ^ 32
-    → ltb (length boot.apps) 16 ≡ true → is_known natives boot.apps app.uuid ≡ false → is_image (image_spelling app.image) ≡ true → image_of (image_spelling app.image) ≡ app.image
+    → ltb (length boot.apps) 16 ≡ true → is_known natives (uuids_of boot.apps) app.uuid ≡ false → is_image (image_spelling app.image) ≡ true → image_of (image_spelling app.image) ≡ app.image
     → IsTold natives (booted boot false []) (app_record app ++ rest) rest (booted (record boot { apps = boot.apps ++ app ∷ [] }) false [])
 unfolding app_record record_rules after_record behind_record kind_tagged is_whole behind rules_of added trace_rules after_trace behind_trace trace_tagged trace_rules_of trace_added
 app_told natives boot app rest sixteen some few room new loads same =

@@ -4,7 +4,7 @@ use Rattle.std.specs.Prelude.{not}
 use Rattle.std.specs.List.{AllByRecursion}
 use Rattle.std.proofs.Math.Seq.{take-append_seam}
 use Rattle.std.proofs.lemmas.Bool.{and_from, le-leb, lt-ltb, not_from_false}
-use Rattle.std.proofs.lemmas.List.{drop_at, length-append, take_at}
+use Rattle.std.proofs.lemmas.List.{drop_at, length-append, length-map, take_at}
 use Rattle.std.proofs.lemmas.List.Elements.{recursion_from_All}
 use Rattle.byteorder.specs.Endian.{little_bytes}
 use Rattle.byteorder.specs.Numbers.{little_number-reads_back}
@@ -19,7 +19,7 @@ use Rattle.trace_text.specs.declared.item.Item.TheVariants as item
 use Rattle.trace_text.specs.declared.item.Reg.{Reg}
 use Rattle.trace_text.specs.declared.item.Reg.TheVariants.{Num}
 use Rattle.trace_text.specs.declared.trace.Fill.{Fill}
-use Rattle.trace_text.specs.Limits.{Front, first_broken, inside_after, is_image, is_inside, is_known, is_within, key_place, lies_in_ram, no_front, no_key, scene_of, with_item}
+use Rattle.trace_text.specs.Limits.{Front, first_broken, inside_after, is_image, is_inside, is_known, is_within, key_place, lies_in_ram, no_front, no_key, scene_of, uuids_of, with_item}
 use Rattle.trace_text.specs.Sound.{can_come, IsPartOfRam, IsSoundFill, IsSoundItem, IsSoundReg}
 use Rattle.trace_bin.specs.declared.record_kind.RecordKind.{RecordKind}
 use Rattle.trace_bin.specs.declared.record_kind.RecordKind.TheVariants as kind
@@ -72,7 +72,7 @@ boot_read natives cpus threads frames rest c0 c1 t0 t1 f0 f1 =
     }
 
 pub app_read : (natives : List (List ℕ)) (boot : Boot) (app : App) (rest : List ℕ) → length app.uuid ≡ 16 → 0 < length (image_spelling app.image) → length (image_spelling app.image) < 2 ^ 32
-    → ltb (length boot.apps) 16 ≡ true → is_known natives boot.apps app.uuid ≡ false → is_image (image_spelling app.image) ≡ true → image_of (image_spelling app.image) ≡ app.image
+    → ltb (length boot.apps) 16 ≡ true → is_known natives (uuids_of boot.apps) app.uuid ≡ false → is_image (image_spelling app.image) ≡ true → image_of (image_spelling app.image) ≡ app.image
     → IsRead natives (front_of boot false [] []) (app_record app ++ rest) rest (front_of (record boot { apps = boot.apps ++ app ∷ [] }) false [] [])
 unfolding app_record record_rules after_record behind_record kind_tagged rules_of added
 app_read natives boot app rest sixteen some few room new loads same =
@@ -81,11 +81,12 @@ app_read natives boot app rest sixteen some few room new loads same =
     let whole = counted_body kind.Ta app.uuid image rest refl (omega (arith, sixteen)) few in
     let id : take 16 body ≡ app.uuid = ap (λ (n : ℕ). take n body) (sym sixteen) ∙ ap (take (length app.uuid)) (append_assoc app.uuid (counted image) rest) ∙ take-append_seam app.uuid (counted image ++ rest) in
     let before : Front = front_of boot false [] [] in
-    let unknown : not (is_known natives boot.apps (take 16 body)) ≡ true = ap (λ (u : List ℕ). not (is_known natives boot.apps u)) id ∙ not_from_false _ new in
+    let unknown : not (is_known natives (uuids_of boot.apps) (take 16 body)) ≡ true = ap (λ (u : List ℕ). not (is_known natives (uuids_of boot.apps) u)) id ∙ not_from_false _ new in
+    let few_apps : ltb (length (uuids_of boot.apps)) 16 ≡ true = ap (λ (n : ℕ). ltb n 16) (length-map boot.apps (λ (a : App). a.uuid)) ∙ room in
     record {
       kept =
           ap (λ (p : List ℕ). first_broken ((bad.Cut, is_whole kind.Ta body) ∷ ta_rules natives before body p)) whole.bytes_are
-          ∙ none_broken ((bad.Cut, is_whole kind.Ta body) ∷ ta_rules natives before body image) (whole.whole, (refl, (refl, (lt-ltb 0 (length image) some, (room, (unknown, (loads, tt)))))));
+          ∙ none_broken ((bad.Cut, is_whole kind.Ta body) ∷ ta_rules natives before body image) (whole.whole, (refl, (refl, (lt-ltb 0 (length image) some, (few_apps, (unknown, (loads, tt)))))));
       adds =
           ap (λ (p : List ℕ). front_of (record boot { apps = boot.apps ++ app_in body p ∷ [] }) false [] []) whole.bytes_are
           ∙ ap (λ (u : List ℕ). front_of (record boot { apps = boot.apps ++ record { uuid = u; image = image_of image } ∷ [] }) false [] []) id

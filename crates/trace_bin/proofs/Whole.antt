@@ -20,7 +20,8 @@ use Rattle.trace_text.specs.declared.fault.BadKind.TheVariants as bad
 use Rattle.trace_text.specs.declared.item.Item.{Item}
 use Rattle.trace_text.specs.declared.trace.Fill.{Fill}
 use Rattle.trace_text.specs.declared.trace.Trace.{Trace}
-use Rattle.trace_text.specs.Limits.{Front, apps_of, inside_after, is_image, is_known, no_front, no_key}
+use Rattle.trace_text.specs.Limits.{Front, apps_of, inside_after, is_image, is_known, no_front, no_key, uuids_of}
+use Rattle.trace_text.proofs.SoundLaws.{any_uuid}
 use Rattle.trace_text.specs.Sound.{ComeInTurn, IsSound, IsSoundBoot, IsSoundFill, IsSoundItem}
 use Rattle.trace_text.proofs.Inside.{inside_push}
 use Rattle.trace_bin.specs.Rules.{behind_record}
@@ -90,7 +91,7 @@ pub record Follows (natives : List (List ℕ)) (done : List App) (app : App) : T
   pub id : length app.uuid ≡ 16
   pub valid : IsValid app.image
   pub room : ltb (length done) 16 ≡ true
-  pub new : is_known natives done app.uuid ≡ false
+  pub new : is_known natives (uuids_of done) app.uuid ≡ false
 
 abbrev pub FollowInTurn : List (List ℕ) → List App → List App → Type 0
 FollowInTurn natives done [] = Unit {0}
@@ -140,7 +141,7 @@ follows natives boot done app apps sound ids is =
       id = subst I (here app) (ids (length done) app below);
       valid = subst V (here app) (sound.boots.valid (length done) app below);
       room = lt-ltb (length done) 16 (omega (arith, len, few));
-      new = or_false _ _ others (not-true _ (subst N (here app) (sound.no_native (length done) app below)));
+      new = or_false _ _ (any_uuid done app.uuid ∙ others) (not-true _ (subst N (here app) (sound.no_native (length done) app below)));
     }
 
 pub follow_in_turn : (natives : List (List ℕ)) (boot : Boot) (done apps : List App) → IsSoundBoot natives boot → All IsIdentified boot.apps → boot.apps ≡ done ++ apps → FollowInTurn natives done apps
