@@ -78,6 +78,9 @@ adds_more boot moves more before between after first second = record {
 
 -- ---- what follows unless an entry was refused
 
+pub some_is : (one other : Play) → Some one ≡ Some other → one ≡ other
+some_is one other e = cc
+
 -- it goes on, or it has ended
 pub data GoesOn (onward : Play → Option Play) (before after : Play) : Type 0 where
   Onward : before.refused ≡ None → onward before ≡ Some after → GoesOn onward before after

@@ -33,10 +33,9 @@ use Rattle.trace_text.specs.declared.trace.Fill.{Fill}
 use Rattle.play_model.specs.Coming.{AreLanes, IsInside, IsReadyFor, IsWhole, ItemsCanCome}
 use Rattle.play_model.specs.Play.{Play, after_item, after_items, enters, entry_event, first_play, leaves}
 use Rattle.play_model.specs.Play.{unless_refused, visit_of, with_event, with_writes}
-use Rattle.play_model.proofs.Adds.{Ended, GoesOn, Onward, goes_on}
+use Rattle.play_model.proofs.Adds.{Ended, GoesOn, Onward, goes_on, some_is}
 use Rattle.play_model.proofs.Entries.{CameIn, Entered, Left, WasRefused, entered, left}
 use Rattle.play_model.proofs.Items.{ended_stays}
-use Rattle.play_model.proofs.LinesStay.{some_is}
 use Rattle.play_model.proofs.RamKept.{first_lanes, still_whole}
 
 -- ---- RAM

@@ -1,12 +1,10 @@
 -- Entries and exits of a play: what comes of them, and how many bytes were read.
 use Rattle.std.proofs.Common.{◌≡◌, ℕ, ◌+◌, ◌<◌, ◌≤◌, Bool, true, false, List, [], ◌∷◌, ◌++◌, Some, None, refl, ap}
-use Rattle.std.proofs.Common.{subst, sym, ◌∙◌, arith}
-use Rattle.std.specs.Prelude.{◌^◌, nat_lt, if◌then◌else◌}
+use Rattle.std.proofs.Common.{subst, sym, ◌∙◌}
+use Rattle.std.specs.Prelude.{nat_lt, if◌then◌else◌}
 use Rattle.std.proofs.lemmas.Bool.{ltb-false}
 use Rattle.std.proofs.lemmas.Bool.Decides.{Decides-ltb}
-use Rattle.std.proofs.lemmas.List.Sums.{sum_by-append}
 use Rattle.std.proofs.lemmas.Option.{option_and_then_some}
-use Rattle.event_journal.specs.Event.{copied_by}
 use Rattle.event_journal.specs.Journal.{copied_bytes}
 use Rattle.event_journal.specs.declared.event.Event.{Event}
 use Rattle.event_journal.specs.declared.event.Event.TheVariants.{Entry, Exit}
@@ -24,21 +22,7 @@ use Rattle.play_model.specs.Play.{Play, enters, enters_with, leaves, leaves_with
 use Rattle.play_model.specs.Play.{with_line, with_writes}
 use Rattle.play_model.proofs.Adds.{Adds, adds_event}
 
--- ---- how many bytes were read
-
--- at most so many, and above that with a refused entry
-pub record IsWithin (play : Play) : Type 0 where
-  pub few : copied_bytes play.history ≤ 2 ^ 28
-  pub many : (more : ℕ) → play.refused ≡ Some more → 2 ^ 28 < copied_bytes play.history + more
-
--- it says nothing of RAM and lines
-pub within_same : (before after : Play) → after.history ≡ before.history → after.refused ≡ before.refused
-    → IsWithin before → IsWithin after
-within_same before after history refused within = record {
-  few = subst (λ (h : List Event). copied_bytes h ≤ 2 ^ 28) (sym history) within.few;
-  many = λ more is.
-      subst (λ (h : List Event). 2 ^ 28 < copied_bytes h + more) (sym history) (within.many more (sym refused ∙ is));
-}
+-- ---- events
 
 -- what an event makes of a play
 pub event_made : (boot : Booted) (event : Event) (before after : Play) → with_event boot event before ≡ Some after
@@ -49,42 +33,35 @@ event_made boot event before after e =
     (after_event boot before.kernel event) after e in
     (ap (λ (p : Play). p.history) (sym came.2), ap (λ (p : Play). p.refused) (sym came.2))
 
-copied-event : (history : List Event) (event : Event)
-    → copied_bytes (history ++ event ∷ []) ≡ copied_bytes history + copied_by event
-copied-event history event = let sum = sum_by-append copied_by history (event ∷ []) in omega (arith, sum)
-
--- an event that reads few enough bytes keeps within them
-within_event : (boot : Booted) (event : Event) (before after : Play) → before.refused ≡ None
-    → with_event boot event before ≡ Some after
-    → copied_bytes before.history + copied_by event ≤ 2 ^ 28 → IsWithin after
-within_event boot event before after going e few =
-    let made = event_made boot event before after e in
-    let read = ap copied_bytes made.0 ∙ copied-event before.history event in
-    record {
-      few = subst (λ (n : ℕ). n ≤ 2 ^ 28) (sym read) few;
-      many = λ more is. let none : None ≡ Some more = sym (made.1 ∙ going) ∙ is in absurd cc;
-    }
+-- and how many bytes may be read stays
+pub event_limit : (boot : Booted) (event : Event) (before after : Play) → with_event boot event before ≡ Some after
+    → after.most_bytes ≡ before.most_bytes
+event_limit boot event before after e =
+    let came = option_map_some
+    (λ (next : Kernel). record before { kernel = next; history = before.history ++ event ∷ [] })
+    (after_event boot before.kernel event) after e in
+    ap (λ (p : Play). p.most_bytes) (sym came.2)
 
 -- ---- entries
 
 -- an entry comes, or is refused
 pub data Entered (boot : Booted) (visit : Visit) (before after : Play) : Type 0 where
-  CameIn : (reads : List Read) → copied_bytes before.history + total_bytes reads ≤ 2 ^ 28 →
+  CameIn : (reads : List Read) → copied_bytes before.history + total_bytes reads ≤ before.most_bytes →
       with_event boot (Entry visit.cpu (record { a = visit.regs }) visit.steps reads) before ≡ Some after
       → Entered boot visit before after
-  WasRefused : (reads : List Read) → 2 ^ 28 < copied_bytes before.history + total_bytes reads →
+  WasRefused : (reads : List Read) → before.most_bytes < copied_bytes before.history + total_bytes reads →
       record before { refused = Some (total_bytes reads) } ≡ after → Entered boot visit before after
 
 entered_by : (boot : Booted) (visit : Visit) (before after : Play) (reads : List Read) (much : Bool)
-    → nat_lt (2 ^ 28) (copied_bytes before.history + total_bytes reads) ≡ much
+    → nat_lt before.most_bytes (copied_bytes before.history + total_bytes reads) ≡ much
     → (if much then Some (record before { refused = Some (total_bytes reads) })
     else with_event boot (Entry visit.cpu (record { a = visit.regs }) visit.steps reads) before) ≡ Some after
     → Entered boot visit before after
 entered_by boot visit before after reads true is e =
     let same : record before { refused = Some (total_bytes reads) } ≡ after = cc in
-    WasRefused reads ((Decides-ltb (2 ^ 28) (copied_bytes before.history + total_bytes reads)).0 is) same
+    WasRefused reads ((Decides-ltb before.most_bytes (copied_bytes before.history + total_bytes reads)).0 is) same
 entered_by boot visit before after reads false is e =
-    CameIn reads (ltb-false (2 ^ 28) (copied_bytes before.history + total_bytes reads) is) e
+    CameIn reads (ltb-false before.most_bytes (copied_bytes before.history + total_bytes reads) is) e
 
 pub entered : (boot : Booted) (visit : Visit) (before after : Play) → enters boot before visit ≡ Some after
     → Entered boot visit before after
@@ -92,7 +69,7 @@ entered boot visit before after e =
     option_and_then_some (enters_with boot before visit) (reads_of boot before visit) after e
     (λ (reads : List Read) there onward.
     entered_by boot visit before after reads
-    (nat_lt (2 ^ 28) (copied_bytes before.history + total_bytes reads)) refl onward)
+    (nat_lt before.most_bytes (copied_bytes before.history + total_bytes reads)) refl onward)
 
 -- ---- exits
 
@@ -128,15 +105,6 @@ left_going boot cpu before after out going =
     let made = event_made boot (Exit cpu (record { a = out.exited.regs })) before out.gone out.came in
     ap (λ (p : Play). p.refused) (sym out.is) ∙ made.1 ∙ going
 
-pub left_within : (boot : Booted) (cpu : ℕ) (before after : Play) → Left boot cpu before after → before.refused ≡ None
-    → IsWithin before → IsWithin after
-left_within boot cpu before after out going within =
-    let few : copied_bytes before.history + 0 ≤ 2 ^ 28 = let had = within.few in omega arith in
-    let event = Exit cpu (record { a = out.exited.regs }) in
-    let made = within_event boot event before out.gone going out.came few in
-    within_same out.gone after (ap (λ (p : Play). p.history) (sym out.is))
-    (ap (λ (p : Play). p.refused) (sym out.is)) made
-
 -- ---- an entry that came in
 
 pub came_adds : (boot : Booted) (cpu steps : ℕ) (regs : List Reg) (reads : List Read) (before after : Play)
@@ -146,24 +114,3 @@ pub came_adds : (boot : Booted) (cpu steps : ℕ) (regs : List Reg) (reads : Lis
 came_adds boot cpu steps regs reads before after came =
     let visit = visit_of before.history cpu steps regs in
     adds_event boot (Comes cpu steps regs) (Entry cpu (record { a = visit.regs }) steps reads) before after refl came
-
-pub came_within : (boot : Booted) (visit : Visit) (reads : List Read) (before after : Play) → before.refused ≡ None
-    → copied_bytes before.history + total_bytes reads ≤ 2 ^ 28
-    → with_event boot (Entry visit.cpu (record { a = visit.regs }) visit.steps reads) before ≡ Some after
-    → IsWithin after
-came_within boot visit reads before after going few came =
-    within_event boot (Entry visit.cpu (record { a = visit.regs }) visit.steps reads) before after going came few
-
--- ---- one that was refused
-
-pub refused_within : (before after : Play) (more : ℕ) → 2 ^ 28 < copied_bytes before.history + more
-    → record before { refused = Some more } ≡ after
-    → IsWithin before → IsWithin after
-refused_within before after more much is within =
-    let here : Play = record before { refused = Some more } in
-    let holds : IsWithin here = record {
-      few = within.few;
-      many = λ other same. let equal : more ≡ other = cc in subst
-          (λ (n : ℕ). 2 ^ 28 < copied_bytes before.history + n) equal much;
-    } in
-    subst IsWithin is holds

@@ -15,9 +15,9 @@ use Rattle.play_model.specs.Line.{Line, Ret, Mem}
 use Rattle.play_model.specs.Order.{TellsExits, line_of_event, told_by_line}
 use Rattle.play_model.specs.Play.{Play, after_item, after_items, enters, entry_event, lane_of, leaves, unless_refused}
 use Rattle.play_model.specs.Play.{visit_of}
-use Rattle.play_model.proofs.Adds.{Ended, GoesOn, Onward, goes_on}
+use Rattle.play_model.proofs.Adds.{Ended, GoesOn, Onward, goes_on, some_is}
 use Rattle.play_model.proofs.Entries.{CameIn, Entered, Left, WasRefused, entered, event_made, left}
-use Rattle.play_model.proofs.LinesStay.{event_prints, some_is}
+use Rattle.play_model.proofs.LinesStay.{event_prints}
 
 -- an event behind others
 told-event : (history : List Event) (event : Event)

@@ -2,6 +2,7 @@ pub mod Returns
 pub mod LastAnswers
 pub mod Adds
 pub mod Entries
+pub mod Within
 pub mod LinesStay
 pub mod RamKept
 pub mod ExitsTold

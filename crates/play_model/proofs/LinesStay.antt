@@ -18,17 +18,15 @@ use Rattle.play_model.specs.Laws.{FixedAnswersPass, PlaysGoOn}
 use Rattle.play_model.specs.Line.{Line, Ret}
 use Rattle.play_model.specs.Play.{Play, after_item, after_items, enters, leaves, unless_refused, visit_of, with_event}
 use Rattle.play_model.specs.Play.{with_line, with_writes}
-use Rattle.play_model.proofs.Adds.{Ended, GoesOn, Onward, goes_on}
+use Rattle.play_model.proofs.Adds.{Ended, GoesOn, Onward, goes_on, some_is}
 use Rattle.play_model.proofs.Entries.{CameIn, Entered, Left, WasRefused, entered, left}
+use Rattle.play_model.proofs.Within.{items_within}
 
 -- ---- what is printed
 
 -- the lines that were there stay at the front
 abbrev Prints : Play → Play → Type 0
 Prints before after = (lines : List Line) × (after.lines ≡ before.lines ++ lines)
-
-pub some_is : (one other : Play) → Some one ≡ Some other → one ≡ other
-some_is one other e = cc
 
 none_printed : (before after : Play) → after.lines ≡ before.lines → Prints before after
 none_printed before after same = ([], same ∙ sym (append-nil before.lines))
@@ -116,7 +114,11 @@ items_onward boot (first ∷ items) more play =
     (λ next. items_onward boot items more next)
 
 pub plays_go_on : PlaysGoOn
-plays_go_on = record { onward = items_onward; printed = items_print }
+plays_go_on = record {
+  onward = items_onward;
+  printed = items_print;
+  within = λ most_bytes boot items before after e within. items_within boot items before after e within;
+}
 
 -- ---- fixed answers
 

@@ -1,7 +1,7 @@
 -- What can come comes, and so each sound trace has a play.
 use Rattle.std.proofs.Common.{◌≡◌, ℕ, ◌+◌, ◌<◌, Bool, true, false, List, [], ◌∷◌, ◌++◌, Option, Some, None, refl, ap}
 use Rattle.std.proofs.Common.{subst, sym, ◌∙◌, arith}
-use Rattle.std.specs.Prelude.{IfSome, IsSome, if◌then◌else◌, nat_lt, slice_get, ◌^◌}
+use Rattle.std.specs.Prelude.{IfSome, IsSome, if◌then◌else◌, nat_lt, slice_get}
 use Rattle.std.specs.List.{AllByRecursion}
 use Rattle.std.specs.Option.{option_and_then, option_map, option_map_or}
 use Rattle.std.proofs.lemmas.Bool.Decides.{nat_tests}
@@ -51,7 +51,7 @@ comes_after boot kernel next visit reads there granted decided =
 -- it comes, or is refused
 comes_with : (boot : Booted) (play : Play) (next : Kernel) (visit : Visit) (reads : List Read)
     → after_event boot play.kernel (entry_event visit reads) ≡ Some next → IsSome (enters_with boot play visit reads)
-comes_with boot play next visit reads came = by (nat_lt (2 ^ 28) (copied_bytes play.history + total_bytes reads))
+comes_with boot play next visit reads came = by (nat_lt play.most_bytes (copied_bytes play.history + total_bytes reads))
   where
     there : IsSome (with_event boot (entry_event visit reads) play)
     there = subst (λ (o : Option Kernel). IsSome

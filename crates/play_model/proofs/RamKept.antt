@@ -20,9 +20,8 @@ use Rattle.play_model.specs.Coming.{AreLanes, IsWhole}
 use Rattle.play_model.specs.Play.{Play, after_item, after_items, enters, entry_event, filled, first_play, lane_of, leaves}
 use Rattle.play_model.specs.Play.{unless_refused, visit_of, with_event, with_writes}
 use Rattle.play_model.specs.Ram.{KeepsRam, RamIsKept}
-use Rattle.play_model.proofs.Adds.{Ended, GoesOn, Onward, goes_on}
+use Rattle.play_model.proofs.Adds.{Ended, GoesOn, Onward, goes_on, some_is}
 use Rattle.play_model.proofs.Entries.{CameIn, Entered, Left, WasRefused, entered, left}
-use Rattle.play_model.proofs.LinesStay.{some_is}
 
 -- ---- one processor's RAM
 

@@ -11,7 +11,7 @@ use Rattle.trace_text.specs.declared.item.Item.TheVariants.{Smc, Enter, Leave, W
 use Rattle.trace_text.specs.declared.item.Reg.TheVariants.{Num, Last}
 use Rattle.trace_text.specs.declared.trace.Fill.{Fill}
 use Rattle.play_model.specs.Line.{mem_line, register_text, ret_line}
-use Rattle.play_model.specs.Play.{Play, after_items, first_play, played_over}
+use Rattle.play_model.specs.Play.{Play, after_items, first_play, played_over, played_within}
 use Rattle.play_model.specs.Text.{text_of, text_of_play}
 
 -- ---- scripts
@@ -83,6 +83,13 @@ lines texts = Some (flat_map (λ text. text ++ 10 ∷ []) texts)
 -- a play that has ended at a refused entry
 abbrev pub ended : Play
 ended = record (first_play (replicate 256 0) (booted (adding 1 1 1) []) []) { refused = Some 32 }
+
+-- where the last of so many opens was refused, how many bytes it would have read: all entries may read so many
+abbrev pub refused_open : ℕ → ℕ → Option (Option ℕ)
+refused_open opens most_bytes =
+    option_map (λ (play : Play). play.refused)
+    (played_within most_bytes (replicate 256 0) [] (adding 1 1 2)
+    (record { boot = Some (adding 1 1 2); fills = open_fill; items = replicate opens (calls 0) }))
 
 pub record Examples : Type 0 where
   -- the parts of a line
@@ -250,6 +257,11 @@ pub record Examples : Type 0 where
       ∷ [])
   -- nothing comes behind a refused entry
   pub ends : after_items (booted (adding 1 1 1) []) (smc 0 1 uid ∷ Show 0 0x40000000 1 ∷ []) ended ≡ Some ended
+  -- an open reads 96 bytes, and two of them read 192: the last comes in where all entries may read as many
+  pub open_within : refused_open 1 96 ≡ Some None
+  pub open_above : refused_open 1 95 ≡ Some (Some 96)
+  pub opens_within : refused_open 2 192 ≡ Some None
+  pub opens_above : refused_open 2 191 ≡ Some (Some 96)
   -- a processor that is outside can't leave, and one that is inside can't enter
   pub none_outside : play_of 256 (adding 1 1 1) [] (Leave 0 ∷ []) ≡ None
   pub none_inside : play_of 256 (adding 1 1 1) [] (enter 0 1 uid ∷ smc 0 1 uid ∷ []) ≡ None

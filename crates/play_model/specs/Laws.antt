@@ -103,6 +103,15 @@ pub record TogetherIn (boot : Booted) (history : List Event) : Type 0 where
       get (noted boot before app).sessions session ≡ Some number →
       get (noted boot history app).sessions session ≡ Some number
 
+-- ---- how many bytes are read
+
+-- all entries of the play may read so many bytes of RAM
+pub record ReadsAtMost (most_bytes : ℕ) (play : Play) : Type 0 where
+  pub limit : play.most_bytes ≡ most_bytes
+  -- they have read no more, and one that was refused would have brought them above that
+  pub few_bytes : copied_bytes play.history ≤ most_bytes
+  pub too_many : (more : ℕ) → play.refused ≡ Some more → most_bytes < copied_bytes play.history + more
+
 -- ---- plays
 
 -- what holds of the play of these items
@@ -113,7 +122,8 @@ pub record IsPlay (boot : Booted) (items : List Item) (play : Play) : Type 0 whe
   pub in_order : HoldsInOrder items play
   -- each return that was printed is an exit of it
   pub told : TellsExits play
-  -- its entries have read at most 2^28 bytes, and one that was refused would have brought them above that
+  -- its entries may read 2^28 bytes; they have read no more, and one that was refused would have brought them above that
+  pub limit : play.most_bytes ≡ 2 ^ 28
   pub few_bytes : copied_bytes play.history ≤ 2 ^ 28
   pub too_many : (more : ℕ) → play.refused ≡ Some more → 2 ^ 28 < copied_bytes play.history + more
   -- a return from RPC resumes the call that is suspended in its slot for its client, or answers ERESUME, which is 3,
@@ -166,10 +176,13 @@ FixedAnswersPass = (boot : Booted) (before after : Play) (visit : Visit) (answer
       lines = before.lines ++ Ret visit.cpu told ∷ [];
     })
 
--- a play goes on from where its first items end, and what they have printed stays at the front
+-- a play goes on from where its first items end; what they have printed stays at the front, and entries go on to read no
+-- more than they may
 pub record PlaysGoOn : Type 0 where
   pub onward : (boot : Booted) (items more : List Item) (play : Play) →
       after_items boot (items ++ more) play
       ≡ option_and_then (λ next. after_items boot more next) (after_items boot items play)
   pub printed : (boot : Booted) (items : List Item) (before after : Play) → after_items boot items before ≡ Some after →
       (lines : List Line) × (after.lines ≡ before.lines ++ lines)
+  pub within : (most_bytes : ℕ) (boot : Booted) (items : List Item) (before after : Play) →
+      after_items boot items before ≡ Some after → ReadsAtMost most_bytes before → ReadsAtMost most_bytes after

@@ -37,6 +37,8 @@ pub record Play : Type 0 where
   pub lines : List Line
   -- where an entry was refused, which ends the play: how many bytes it would have read
   pub refused : Option ℕ
+  -- the most bytes that all entries may read of RAM
+  pub most_bytes : ℕ
 
 -- ---- the beginning
 
@@ -44,15 +46,20 @@ pub record Play : Type 0 where
 abbrev pub filled : List ℕ → List Fill → List ℕ
 filled ram fills = lane_after ram (map (λ (fill : Fill). record { addr = fill.addr; bytes = fill.bytes }) fills)
 
--- the kernel of the boot, and this RAM with the fills for each processor
-abbrev pub first_play : List ℕ → Booted → List Fill → Play
-first_play ram boot fills = record {
+-- the kernel of the boot, and this RAM with the fills for each processor, where all entries may read so many bytes
+abbrev pub first_play_within : ℕ → List ℕ → Booted → List Fill → Play
+first_play_within most_bytes ram boot fills = record {
   kernel = first_kernel boot;
   history = [];
   lanes = replicate boot.cpus (filled ram fills);
   lines = [];
   refused = None;
+  most_bytes = most_bytes;
 }
+
+-- those of a trace may read 2^28
+abbrev pub first_play : List ℕ → Booted → List Fill → Play
+first_play ram boot fills = first_play_within (2 ^ 28) ram boot fills
 
 -- ---- what an item can change
 
@@ -105,10 +112,10 @@ abbrev pub reads_of : Booted → Play → Visit → Option (List Read)
 reads_of boot play visit =
     option_map (λ end. end.1) (over_lane (entry boot play.kernel visit) (lane_of play visit.cpu) [])
 
--- an entry with these reads: where all entries would then have read more than 2^28 bytes, it is refused
+-- an entry with these reads: where all entries would then have read more bytes than they may, it is refused
 abbrev pub enters_with : Booted → Play → Visit → List Read → Option Play
 enters_with boot play visit reads =
-    if nat_lt (2 ^ 28) (copied_bytes play.history + total_bytes reads)
+    if nat_lt play.most_bytes (copied_bytes play.history + total_bytes reads)
     then Some (record play { refused = Some (total_bytes reads) })
     else with_event boot (entry_event visit reads) play
 
@@ -153,11 +160,16 @@ after_items boot (first ∷ items) play =
 
 -- ---- traces
 
--- the play of a trace that has this boot, beside built-in applications, where each processor's RAM is this at first
-abbrev pub played_over : List ℕ → List Native → Boot → Trace → Option Play
-played_over ram natives boot trace =
+-- the play of a trace that has this boot, beside built-in applications, where each processor's RAM is this at first, and
+-- all entries may read so many bytes
+abbrev pub played_within : ℕ → List ℕ → List Native → Boot → Trace → Option Play
+played_within most_bytes ram natives boot trace =
     let on = booted boot natives in
-    after_items on trace.items (first_play ram on trace.fills)
+    after_items on trace.items (first_play_within most_bytes ram on trace.fills)
+
+-- the same where they may read 2^28, as those of a trace may
+abbrev pub played_over : List ℕ → List Native → Boot → Trace → Option Play
+played_over ram natives boot trace = played_within (2 ^ 28) ram natives boot trace
 
 -- the same over RAM of zeros
 abbrev pub played : List Native → Boot → Trace → Option Play

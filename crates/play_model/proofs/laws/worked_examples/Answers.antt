@@ -21,6 +21,10 @@ returns c = record {
   woken = refl;
   last_answers = refl;
   ends = refl;
+  open_within = refl;
+  open_above = refl;
+  opens_within = refl;
+  opens_above = refl;
   none_outside = refl;
   none_inside = refl;
 }
