@@ -17,11 +17,14 @@ use Rattle.kernel_model.proofs.Past.{after_events-append}
 use Rattle.notif.proofs.Reaching.{signals_reach_drivers}
 use Rattle.notify_text.specs.Steps.{Signals, Step, Takes}
 use Rattle.ns_ram.specs.Writes.{Write}
+use Rattle.play_model.specs.Laws.{ReadsAtMost}
 use Rattle.play_model.specs.Line.{Ret}
-use Rattle.play_model.specs.Play.{Play, enters, first_play, leaves, leaves_with, with_event, with_line, with_writes}
+use Rattle.play_model.specs.Play.{Play, enters, first_play_within, leaves, leaves_with, with_event, with_line}
+use Rattle.play_model.specs.Play.{with_writes}
 use Rattle.play_model.proofs.Entries.{CameIn, Entered, WasRefused, entered}
 use Rattle.play_model.proofs.Returns.{alone_in, no_call_in, no_slot_in, returns_in, together_in}
 use Rattle.play_model.proofs.TrueToKernel.{exits_in, refused_in}
+use Rattle.play_model.proofs.Within.{entry_within, first_within, out_within, within_same}
 use Rattle.smc_abi.specs.Call.{call_of}
 use Rattle.smc_abi.specs.declared.call.Call.{Call}
 use Rattle.smc_abi.specs.declared.call.Call.TheVariants.{Resume, Unknown}
@@ -58,90 +61,127 @@ entry_follows boot visit before after (CameIn reads few e) there =
 entry_follows boot visit before after (WasRefused reads much is) there =
     subst (λ (p : Play). Follows boot p) is there
 
--- a play with signals, seen as the kernel's
-abbrev Kept : Booted → NotifyPlay → Type 0
-Kept boot told = Follows boot told.play
+-- and its entries have read no more bytes than they may
+record Keeps (most_bytes : ℕ) (boot : Booted) (play : Play) : Type 0 where
+  follows : Follows boot play
+  within : ReadsAtMost most_bytes play
 
-comes_in_kept : (boot : Booted) (cpu steps : ℕ) (regs : List Reg) (before after : NotifyPlay)
-    → comes_in boot cpu steps regs before ≡ Some after → Kept boot before → Kept boot after
-comes_in_kept boot cpu steps regs before after e there =
+-- a play with signals, seen as the kernel's
+abbrev Kept : ℕ → Booted → NotifyPlay → Type 0
+Kept most_bytes boot told = Keeps most_bytes boot told.play
+
+comes_in_kept : {most_bytes : ℕ} (boot : Booted) (cpu steps : ℕ) (regs : List Reg) (before after : NotifyPlay)
+    → comes_in boot cpu steps regs before ≡ Some after → before.play.refused ≡ None → Kept most_bytes boot before
+    → Kept most_bytes boot after
+comes_in_kept {most_bytes} boot cpu steps regs before after e going there =
     let visit = visit_with before cpu steps regs in
     let came = option_map_some (with_play before) (enters boot before.play visit) after e in
-    subst (λ (p : NotifyPlay). Kept boot p) came.2
-    (entry_follows boot visit before.play came.0 (entered boot visit before.play came.0 came.1) there)
+    let entry = entered boot visit before.play came.0 came.1 in
+    let here : Keeps most_bytes boot came.0 = record {
+      follows = entry_follows boot visit before.play came.0 entry there.follows;
+      within = entry_within boot visit before.play came.0 entry going there.within;
+    } in
+    subst (λ (p : NotifyPlay). Kept most_bytes boot p) came.2 here
 
-goes_out_kept : (boot : Booted) (drivers : Drivers) (cpu : ℕ) (before after : NotifyPlay)
-    → goes_out boot drivers cpu before ≡ Some after → Kept boot before → Kept boot after
-goes_out_kept boot drivers cpu before after e there =
+goes_out_kept : {most_bytes : ℕ} (boot : Booted) (drivers : Drivers) (cpu : ℕ) (before after : NotifyPlay)
+    → goes_out boot drivers cpu before ≡ Some after → before.play.refused ≡ None → Kept most_bytes boot before
+    → Kept most_bytes boot after
+goes_out_kept {most_bytes} boot drivers cpu before after e going there =
     option_and_then_some (goes_out_with boot drivers before cpu) (exit before.play.kernel cpu) after e
     (λ (exited : Exited) found onward.
     let event : Event = Exit cpu (record { a = exited.regs }) in
-    let came = option_map_some (tells drivers before cpu exited (duty_at before cpu exited))
-    (with_event boot event before.play) after onward in
-    subst (λ (p : NotifyPlay). Kept boot p) came.2 (event_follows boot event before.play came.0 came.1 there))
+    let tell = tells drivers before cpu exited (duty_at before cpu exited) in
+    let came = option_map_some tell (with_event boot event before.play) after onward in
+    let told : NotifyPlay = tell came.0 in
+    let here : Keeps most_bytes boot told.play = record {
+      follows = event_follows boot event before.play came.0 came.1 there.follows;
+      within = within_same came.0 told.play refl refl refl
+          (out_within boot cpu exited.regs before.play came.0 came.1 going there.within);
+    } in
+    subst (λ (p : NotifyPlay). Kept most_bytes boot p) came.2 here)
 
 -- ---- steps
 
 -- it goes on, or an entry was refused
-unless_kept : (boot : Booted) (onward : NotifyPlay → Option NotifyPlay) (before after : NotifyPlay) (refused : Option ℕ)
-    → before.play.refused ≡ refused → unless_refused onward before ≡ Some after
-    → (onward before ≡ Some after → Kept boot after) → Kept boot before → Kept boot after
+unless_kept : {most_bytes : ℕ} (boot : Booted) (onward : NotifyPlay → Option NotifyPlay) (before after : NotifyPlay)
+    (refused : Option ℕ) → before.play.refused ≡ refused → unless_refused onward before ≡ Some after
+    → (before.play.refused ≡ None → onward before ≡ Some after → Kept most_bytes boot after) → Kept most_bytes boot before
+    → Kept most_bytes boot after
 unless_kept boot onward before after None is e goes there =
-    goes (sym (ap (λ (o : Option ℕ). option_map_or (λ more. Some before) o (onward before)) is) ∙ e)
-unless_kept boot onward before after (Some more) is e goes there =
+    goes is (sym (ap (λ (o : Option ℕ). option_map_or (λ more. Some before) o (onward before)) is) ∙ e)
+unless_kept {most_bytes} boot onward before after (Some more) is e goes there =
     let here : Some before ≡ Some after = sym
     (ap (λ (o : Option ℕ). option_map_or (λ more. Some before) o (onward before)) is) ∙ e in
     let same : before ≡ after = cc in
-    subst (λ (p : NotifyPlay). Kept boot p) same there
+    subst (λ (p : NotifyPlay). Kept most_bytes boot p) same there
 
-item_kept : (boot : Booted) (drivers : Drivers) (i : Item) (before after : NotifyPlay)
-    → after_item boot drivers i before ≡ Some after → Kept boot before → Kept boot after
-item_kept boot drivers (item.Smc cpu steps regs) before after e there =
+-- RAM is written or shown
+ram_kept : {most_bytes : ℕ} (boot : Booted) (before now after : Play) → now ≡ after → now.history ≡ before.history
+    → now.kernel ≡ before.kernel → now.refused ≡ before.refused → now.most_bytes ≡ before.most_bytes
+    → Keeps most_bytes boot before → Keeps most_bytes boot after
+ram_kept {most_bytes} boot before now after is history kernel refused limit there =
+    let here : Keeps most_bytes boot now = record {
+      follows = ap (kernel_after boot) history ∙ there.follows ∙ ap (λ (k : Kernel). Some k) (sym kernel);
+      within = within_same before now history refused limit there.within;
+    } in
+    subst (Keeps most_bytes boot) is here
+
+item_kept : {most_bytes : ℕ} (boot : Booted) (drivers : Drivers) (i : Item) (before after : NotifyPlay)
+    → after_item boot drivers i before ≡ Some after → before.play.refused ≡ None → Kept most_bytes boot before
+    → Kept most_bytes boot after
+item_kept boot drivers (item.Smc cpu steps regs) before after e going there =
     option_and_then_some (unless_refused (goes_out boot drivers cpu)) (comes_in boot cpu steps regs before) after e
     (λ (between : NotifyPlay) came onward.
-    let inside = comes_in_kept boot cpu steps regs before between came there in
+    let inside = comes_in_kept boot cpu steps regs before between came going there in
     unless_kept boot (goes_out boot drivers cpu) between after between.play.refused refl onward
-    (λ out. goes_out_kept boot drivers cpu between after out inside) inside)
-item_kept boot drivers (item.Enter cpu steps regs) before after e there =
-    comes_in_kept boot cpu steps regs before after e there
-item_kept boot drivers (item.Leave cpu) before after e there = goes_out_kept boot drivers cpu before after e there
-item_kept boot drivers (item.Write cpu addr bytes) before after e there =
+    (λ still out. goes_out_kept boot drivers cpu between after out still inside) inside)
+item_kept boot drivers (item.Enter cpu steps regs) before after e going there =
+    comes_in_kept boot cpu steps regs before after e going there
+item_kept boot drivers (item.Leave cpu) before after e going there =
+    goes_out_kept boot drivers cpu before after e going there
+item_kept boot drivers (item.Write cpu addr bytes) before after e going there =
     let play = ap (λ (o : Option NotifyPlay). option_map_or (λ (p : NotifyPlay). p.play) o before.play) e in
-    subst (λ (p : Play). Follows boot p) play there
-item_kept boot drivers (item.Show cpu addr len) before after e there =
+    ram_kept boot before.play _ after.play play refl refl refl refl there
+item_kept boot drivers (item.Show cpu addr len) before after e going there =
     let play = ap (λ (o : Option NotifyPlay). option_map_or (λ (p : NotifyPlay). p.play) o before.play) e in
-    subst (λ (p : Play). Follows boot p) play there
+    ram_kept boot before.play _ after.play play refl refl refl refl there
 
-step_kept : (boot : Booted) (drivers : Drivers) (step : Step) (before after : NotifyPlay)
-    → after_step boot drivers step before ≡ Some after → Kept boot before → Kept boot after
-step_kept boot drivers (Takes i) before after e there = item_kept boot drivers i before after e there
-step_kept boot drivers (Signals value) before after e there =
+step_kept : {most_bytes : ℕ} (boot : Booted) (drivers : Drivers) (step : Step) (before after : NotifyPlay)
+    → after_step boot drivers step before ≡ Some after → before.play.refused ≡ None → Kept most_bytes boot before
+    → Kept most_bytes boot after
+step_kept boot drivers (Takes i) before after e going there = item_kept boot drivers i before after e going there
+step_kept {most_bytes} boot drivers (Signals value) before after e going there =
     let play = ap (λ (o : Option NotifyPlay). option_map_or (λ (p : NotifyPlay). p.play) o before.play) e in
-    subst (λ (p : Play). Follows boot p) play there
+    subst (Keeps most_bytes boot) play there
 
-steps_kept : (boot : Booted) (drivers : Drivers) (steps : List Step) (before after : NotifyPlay)
-    → after_steps boot drivers steps before ≡ Some after → Kept boot before → Kept boot after
-steps_kept boot drivers [] before after e there =
+steps_kept : {most_bytes : ℕ} (boot : Booted) (drivers : Drivers) (steps : List Step) (before after : NotifyPlay)
+    → after_steps boot drivers steps before ≡ Some after → Kept most_bytes boot before → Kept most_bytes boot after
+steps_kept {most_bytes} boot drivers [] before after e there =
     let same : before ≡ after = cc in
-    subst (λ (p : NotifyPlay). Kept boot p) same there
+    subst (λ (p : NotifyPlay). Kept most_bytes boot p) same there
 steps_kept boot drivers (first ∷ steps) before after e there =
     option_and_then_some (λ next. after_steps boot drivers steps next)
     (unless_refused (after_step boot drivers first) before) after e
     (λ (next : NotifyPlay) came onward.
     steps_kept boot drivers steps next after onward
     (unless_kept boot (after_step boot drivers first) before next before.play.refused refl came
-    (λ taken. step_kept boot drivers first before next taken there) there))
+    (λ going taken. step_kept boot drivers first before next taken going there) there))
 
 -- ---- the law
 
 pub steps_are_played : StepsArePlayed
-steps_are_played ram natives drivers boot fills steps told boots e =
+steps_are_played most_bytes ram natives drivers boot fills steps told boots e =
     let on = booted boot natives in
-    let kernel = steps_kept on drivers steps (first_notify_play on (first_play ram on fills)) told e refl in
-    let legal : IsLegal on told.play.history = record { boots = boots; follows = subst IsSome (sym kernel) refl } in
+    let first = first_play_within most_bytes ram on fills in
+    let begins : Keeps most_bytes on first = record { follows = refl; within = first_within most_bytes ram on fills } in
+    let kept = steps_kept on drivers steps (first_notify_play on first) told e begins in
+    let legal : IsLegal on told.play.history = record { boots = boots; follows = subst IsSome (sym kept.follows) refl } in
     record {
       legal = legal;
-      kernel = kernel;
+      kernel = kept.follows;
+      limit = kept.within.limit;
+      few_bytes = kept.within.few_bytes;
+      too_many = kept.within.too_many;
       exits = exits_in on told.play.history legal;
       returns = returns_in on told.play.history legal;
       no_call = no_call_in on told.play.history legal;

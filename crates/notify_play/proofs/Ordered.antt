@@ -20,7 +20,7 @@ use Rattle.ns_ram.specs.Lane.{bytes_at}
 use Rattle.ns_ram.specs.declared.read.Read.{Read}
 use Rattle.play_model.specs.Line.{Line, Mem, Ret}
 use Rattle.play_model.specs.Order.{Comes, Leaves, line_of_event, told_by_line}
-use Rattle.play_model.specs.Play.{Play, enters, first_play, lane_of, last_answer, number_in, with_event, with_line, with_writes}
+use Rattle.play_model.specs.Play.{Play, enters, first_play_within, lane_of, last_answer, number_in, with_event, with_line, with_writes}
 use Rattle.play_model.proofs.Coming as coming
 use Rattle.play_model.proofs.Entries.{CameIn, Entered, WasRefused, entered, event_made}
 use Rattle.play_model.proofs.LastAnswers.{last_answer-entry, last_answer-exit}
@@ -403,9 +403,9 @@ module _ (boot : Booted) (boots : IsBooted boot) (drivers : Drivers) where
 -- ---- the law
 
 pub steps_hold_in_order : StepsHoldInOrder
-steps_hold_in_order ram natives drivers boot fills steps told boots e =
+steps_hold_in_order most_bytes ram natives drivers boot fills steps told boots e =
     let on = booted boot natives in
-    let first = first_notify_play on (first_play ram on fills) in
+    let first = first_notify_play on (first_play_within most_bytes ram on fills) in
     let stands : Stands on [] first = record {
       comes = refl;
       count = length-replicate on.cpus (replicate 8 0);

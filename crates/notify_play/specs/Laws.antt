@@ -1,6 +1,7 @@
 -- What holds of each play of a trace with signals.
-use Rattle.std.specs.Prelude.{◌≡◌, ℕ, List, ◌++◌, None, Some}
+use Rattle.std.specs.Prelude.{◌≡◌, ℕ, ◌+◌, ◌<◌, ◌≤◌, List, ◌++◌, None, Some}
 use Rattle.std.specs.Option.{option_map}
+use Rattle.event_journal.specs.Journal.{copied_bytes}
 use Rattle.event_journal.specs.declared.event.Event.{Event}
 use Rattle.kernel_model.specs.Application.{Booted, IsBooted, Native, booted}
 use Rattle.kernel_model.specs.Argument.{reg}
@@ -11,7 +12,7 @@ use Rattle.notif.specs.Desk.{driver_calls}
 use Rattle.notif.specs.History.{DeskCall, owed_calls}
 use Rattle.notify_text.specs.Steps.{Step}
 use Rattle.play_model.specs.Laws.{AloneIn, ReturnsIn, TogetherIn, ToldIn}
-use Rattle.play_model.specs.Play.{first_play, leaves}
+use Rattle.play_model.specs.Play.{first_play_within, leaves}
 use Rattle.play_model.specs.TrueToKernel.{ExitsIn, RefusedIn}
 use Rattle.smc_abi.specs.Call.{call_of}
 use Rattle.smc_abi.specs.declared.call.Call.TheVariants.{Resume}
@@ -22,13 +23,17 @@ use Rattle.notify_play.specs.Duty.{CameIn, Nothing, duty_of}
 use Rattle.notify_play.specs.NotifyPlay.{Drivers, NotifyPlay, after_steps, desk_of, duty_at, first_notify_play, goes_out}
 use Rattle.notify_play.specs.Order.{HoldsSteps}
 
--- what holds of a play with signals, whatever was signalled
-pub record IsNotifyPlay (boot : Booted) (drivers : Drivers) (told : NotifyPlay) : Type 0 where
+-- what holds of a play with signals whose entries may read so many bytes, whatever was signalled
+pub record IsNotifyPlay (most_bytes : ℕ) (boot : Booted) (drivers : Drivers) (told : NotifyPlay) : Type 0 where
   -- its history is legal from the boot, and leads to its kernel
   pub legal : IsLegal boot told.play.history
   pub kernel : kernel_after boot told.play.history ≡ Some told.play.kernel
   -- and keeps the kernel's own answers: each exit in it has the registers that the kernel gives after the events before
   pub exits : ExitsIn boot told.play.history
+  -- its entries have read no more bytes than they may, and one that was refused would have brought them above that
+  pub limit : told.play.most_bytes ≡ most_bytes
+  pub few_bytes : copied_bytes told.play.history ≤ most_bytes
+  pub too_many : (more : ℕ) → told.play.refused ≡ Some more → most_bytes < copied_bytes told.play.history + more
   -- a return from RPC resumes the call that is suspended in its slot for its client, or is answered ERESUME, which is 3,
   -- exactly where there is none, and changes nothing but the history then; ETHREAD_LIMIT, which is 1, comes exactly where a new
   -- call finds no slot free
@@ -44,24 +49,24 @@ pub record IsNotifyPlay (boot : Booted) (drivers : Drivers) (told : NotifyPlay) 
   -- bottom half or stop, each with the number of these signals, at most 2^32 - 1 (its desk's calls: `StepsCallDesk`)
   pub bottom_half : driver_calls (desk_of drivers told) ≡ owed_calls drivers told.calls
 
--- each play of steps is one, whatever RAM holds at first; and so at each place of a trace, where a bottom half may come,
--- the play of the steps before it is one
+-- each play of steps is one, however much its entries may read, and whatever RAM holds at first; and so at each place of a
+-- trace, where a bottom half may come, the play of the steps before it is one
 abbrev pub StepsArePlayed : Type 0
 StepsArePlayed =
-    (ram : List ℕ) (natives : List Native) (drivers : Drivers) (boot : Boot) (fills : List Fill) (steps : List Step)
+    (most_bytes : ℕ) (ram : List ℕ) (natives : List Native) (drivers : Drivers) (boot : Boot) (fills : List Fill) (steps : List Step)
     (told : NotifyPlay) → IsBooted (booted boot natives) →
     (let on = booted boot natives in
-    after_steps on drivers steps (first_notify_play on (first_play ram on fills)) ≡ Some told →
-    IsNotifyPlay on drivers told)
+    after_steps on drivers steps (first_notify_play on (first_play_within most_bytes ram on fills)) ≡ Some told →
+    IsNotifyPlay most_bytes on drivers told)
 
 -- and holds its steps in their order: its history has the entries and exits that they let happen, with each signal at its place, and its
 -- returns are what was told at its exits
 abbrev pub StepsHoldInOrder : Type 0
 StepsHoldInOrder =
-    (ram : List ℕ) (natives : List Native) (drivers : Drivers) (boot : Boot) (fills : List Fill) (steps : List Step)
+    (most_bytes : ℕ) (ram : List ℕ) (natives : List Native) (drivers : Drivers) (boot : Boot) (fills : List Fill) (steps : List Step)
     (told : NotifyPlay) → IsBooted (booted boot natives) →
     (let on = booted boot natives in
-    after_steps on drivers steps (first_notify_play on (first_play ram on fills)) ≡ Some told →
+    after_steps on drivers steps (first_notify_play on (first_play_within most_bytes ram on fills)) ≡ Some told →
     HoldsSteps drivers steps told)
 
 -- of two plays, of which one comes of the other, where these values were signalled between them, the last one first

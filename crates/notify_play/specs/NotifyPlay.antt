@@ -1,6 +1,6 @@
 -- The play of a trace with signals: the play of a trace, in which a desk of signals answers above the core. What it changes
 -- is changed at the exits, where later items find it; the history keeps the kernel's own answers. This project's own.
-use Rattle.std.specs.Prelude.{ℕ, List, [], ◌∷◌, ◌++◌, map, replicate, slice_index_or, slice_set, Option, Some}
+use Rattle.std.specs.Prelude.{ℕ, ◌^◌, List, [], ◌∷◌, ◌++◌, map, replicate, slice_index_or, slice_set, Option, Some}
 use Rattle.std.specs.Option.{option_and_then, option_map, option_map_or}
 use Rattle.base.specs.Zeros.{zeros}
 use Rattle.event_journal.specs.declared.event.Event.TheVariants.{Exit}
@@ -14,7 +14,7 @@ use Rattle.notif.specs.History.{DeskCall, Signal, desk_after}
 use Rattle.notify_text.specs.Steps.{Signals, Step, Takes, steps_of}
 use Rattle.notify_text.specs.declared.notify_trace.NotifyTrace.{NotifyTrace}
 use Rattle.play_model.specs.Line.{Ret}
-use Rattle.play_model.specs.Play.{Play, enters, first_play, number_in, with_event, with_line, with_writes}
+use Rattle.play_model.specs.Play.{Play, enters, first_play_within, number_in, with_event, with_line, with_writes}
 use Rattle.play_model.specs.Play as trace_play
 use Rattle.ta_isa.specs.declared.boot.Boot.{Boot}
 use Rattle.trace_text.specs.declared.item.Item.{Item}
@@ -123,11 +123,15 @@ after_steps boot drivers (first ∷ steps) before =
 -- ---- traces
 
 -- the play of a trace that has this boot, beside built-in applications and drivers, where each processor's RAM is this at
--- first
-abbrev pub notify_played_over : List ℕ → List Native → Drivers → Boot → NotifyTrace → Option NotifyPlay
-notify_played_over ram natives drivers boot told =
+-- first, and all entries may read so many bytes
+abbrev pub notify_played_within : ℕ → List ℕ → List Native → Drivers → Boot → NotifyTrace → Option NotifyPlay
+notify_played_within most_bytes ram natives drivers boot told =
     let on = booted boot natives in
-    after_steps on drivers (steps_of told) (first_notify_play on (first_play ram on told.trace.fills))
+    after_steps on drivers (steps_of told) (first_notify_play on (first_play_within most_bytes ram on told.trace.fills))
+
+-- the same where they may read 2^28, as those of a trace may
+abbrev pub notify_played_over : List ℕ → List Native → Drivers → Boot → NotifyTrace → Option NotifyPlay
+notify_played_over ram natives drivers boot told = notify_played_within (2 ^ 28) ram natives drivers boot told
 
 -- the same over RAM of zeros
 abbrev pub notify_played : List Native → Drivers → Boot → NotifyTrace → Option NotifyPlay
