@@ -1,6 +1,6 @@
 -- From what was read, played and answered to what the word says of it.
 use Rattle.std.proofs.Common.{◌≡◌, ℕ, ◌≤◌, ◌⊎◌, inl, inr, List, [], ◌∷◌, ◌++◌, length, take, drop, Option, Some, None, refl, sym, ap, subst, ◌∙◌}
-use Rattle.std.specs.Prelude.{Err, IfErr, IfNone, IfOk, IfSome, Ok, Result}
+use Rattle.std.specs.Prelude.{◌^◌, Err, IfErr, IfNone, IfOk, IfSome, Ok, Result}
 use Rattle.std.specs.Option.{option_and_then, option_map}
 use Rattle.std.proofs.lemmas.List.{take-append-drop}
 use Rattle.std.proofs.lemmas.Option.{option_and_then_some}
@@ -85,8 +85,8 @@ holds_behind natives drivers boot told steps now boots e =
     let desk = steps_call_desk (booted boot natives) drivers steps (start_of (booted boot natives) told) now e in
     record {
       is_play = e;
-      holds = steps_are_played (zeros 0x400000) natives drivers boot told.trace.fills steps now boots e;
-      in_order = steps_hold_in_order (zeros 0x400000) natives drivers boot told.trace.fills steps now boots e;
+      holds = steps_are_played (2 ^ 28) (zeros 0x400000) natives drivers boot told.trace.fills steps now boots e;
+      in_order = steps_hold_in_order (2 ^ 28) (zeros 0x400000) natives drivers boot told.trace.fills steps now boots e;
       calls = desk.0;
       all_taken = desk.1;
     }

@@ -1,5 +1,5 @@
 -- What was played where the status is 0, or TooLong by a refused entry.
-use Rattle.std.specs.Prelude.{◌≡◌, ◌⊎◌, ℕ, List, [], Option, None, Some, take}
+use Rattle.std.specs.Prelude.{◌≡◌, ◌⊎◌, ℕ, ◌^◌, List, [], Option, None, Some, take}
 use Rattle.base.specs.Zeros.{zeros}
 use Rattle.kernel_model.specs.Application.{Booted, Native, booted}
 use Rattle.notify_play.specs.Asked.{signalled, taken}
@@ -32,10 +32,11 @@ pub record HoldsBehind (on : Booted) (drivers : Drivers) (start : NotifyPlay) (s
   where
     -- it is what they make of the start
     pub is_play : after_steps on drivers steps start ≡ Some now
-    -- its history is legal, with the kernel's own answers, so that what holds of legal histories holds of its calls and sessions; and a
-    -- bottom half that comes next calls exactly the drivers that were signalled, while the desk was enabled, since the last
-    -- bottom half or stop, each with the number of these signals, at most 2^32 - 1
-    pub holds : IsNotifyPlay on drivers now
+    -- its history is legal, with the kernel's own answers, so that what holds of legal histories holds of its calls and sessions; its
+    -- entries have read at most 2^28 bytes, and one that was refused would have brought them above that; and a bottom half that
+    -- comes next calls exactly the drivers that were signalled, while the desk was enabled, since the last bottom half or stop, each
+    -- with the number of these signals, at most 2^32 - 1
+    pub holds : IsNotifyPlay (2 ^ 28) on drivers now
     -- its history is the entries and exits that the steps let happen, in their order, with each signal at its place: all of them, or
     -- those before a refused entry. Each printed return is the kernel's exit, or what the desk makes of it; each exit once, in order
     pub in_order : HoldsSteps drivers steps now
