@@ -31,6 +31,7 @@ use Rattle.play_model.proofs.Entries.{Left, event_made, left, left_going}
 use Rattle.play_model.proofs.LinesStay.{plays_go_on}
 use Rattle.play_model.proofs.PlaysThere.{traces_have_plays}
 use Rattle.play_model.proofs.WholeLanes.{zeros-whole}
+use Rattle.play_model.proofs.Within.{first_within}
 use Rattle.trace_text.specs.declared.item.Item.{Item}
 use Rattle.trace_text.specs.declared.item.Item.TheVariants as item
 use Rattle.trace_text.specs.declared.item.Reg.{Reg}
@@ -55,11 +56,11 @@ record Came (before after : Play) (most : ℕ) : Type 0 where
   few : copied_bytes after.history ≤ copied_bytes before.history + most
 
 came_with : (boot : Booted) (visit : Visit) (before after : Play) (reads : List Read) (most : ℕ)
-    → before.refused ≡ None → total_bytes reads ≤ most → copied_bytes before.history + most ≤ 2 ^ 28
+    → before.refused ≡ None → total_bytes reads ≤ most → copied_bytes before.history + most ≤ before.most_bytes
     → enters_with boot before visit reads ≡ Some after → Came before after most
 came_with boot visit before after reads most going few room e =
     let event : Event = Entry visit.cpu (record { a = visit.regs }) visit.steps reads in
-    let fits = le-ltb (2 ^ 28) (copied_bytes before.history + total_bytes reads) (omega (arith, few, room)) in
+    let fits = le-ltb before.most_bytes (copied_bytes before.history + total_bytes reads) (omega (arith, few, room)) in
     let came : with_event boot event before ≡ Some after =
     subst (λ (much : Bool). (if much then Some (record before { refused = Some (total_bytes reads) })
     else with_event boot event before) ≡ Some after) fits e in
@@ -73,7 +74,7 @@ came_with boot visit before after reads most going few room e =
 
 entry_came : (boot : Booted) (visit : Visit) (before after : Play) (most : ℕ) → before.refused ≡ None
     → AtMost (lane_of before visit.cpu) (entry boot before.kernel visit) most
-    → copied_bytes before.history + most ≤ 2 ^ 28 → enters boot before visit ≡ Some after → Came before after most
+    → copied_bytes before.history + most ≤ before.most_bytes → enters boot before visit ≡ Some after → Came before after most
 entry_came boot visit before after most going little room e =
     option_and_then_some (enters_with boot before visit) (reads_of boot before visit) after e
     (λ (reads : List Read) there onward.
@@ -98,7 +99,7 @@ exit_copies boot cpu before after out =
 call_came : (boot : Booted) (cpu steps : ℕ) (regs : List Reg) (before after : Play) (most : ℕ) → before.refused ≡ None
     → (let visit = visit_of before.history cpu steps regs in
     AtMost (lane_of before cpu) (entry boot before.kernel visit) most)
-    → copied_bytes before.history + most ≤ 2 ^ 28 → after_item boot (item.Smc cpu steps regs) before ≡ Some after
+    → copied_bytes before.history + most ≤ before.most_bytes → after_item boot (item.Smc cpu steps regs) before ≡ Some after
     → Came before after most
 call_came boot cpu steps regs before after most going little room e =
     let visit = visit_of before.history cpu steps regs in
@@ -132,6 +133,11 @@ module _ (seed total : ℕ) where
     pub going : play.refused ≡ None
     pub few : copied_bytes play.history ≤ most
 
+  -- they are a trace's
+  may_read : (front : List Item) (play : Play) → after_items on front start ≡ Some play → play.most_bytes ≡ 2 ^ 28
+  may_read front play taken =
+      (plays_go_on.within (2 ^ 28) on front start play taken (first_within (2 ^ 28) (zeros 0x400000) on trace.fills)).limit
+
   can_come : (front rest : List Item) (i : Item) (most : ℕ) (play : Play) → trace.items ≡ front ++ i ∷ rest
       → Reached front most play → coming.CanCome on i play
   can_come front rest i most play is reached =
@@ -161,7 +167,9 @@ module _ (seed total : ℕ) where
       let can = can_come front rest i most play is reached in
       let after = there (after_item on i play) (traces_have_plays.comes on i play can) in
       let few = reached.few in
-      let came = call_came on cpu steps regs play after.0 4096 reached.going little (omega (arith, few, room)) after.1 in (
+      let limit = may_read front play reached.taken in
+      let fits : copied_bytes play.history + 4096 ≤ play.most_bytes = omega (arith, few, room, limit) in
+      let came = call_came on cpu steps regs play after.0 4096 reached.going little fits after.1 in (
         after.0,
         record {
           taken = one_more front i most play after.0 reached after.1;
