@@ -10,8 +10,8 @@ use Rattle.event_journal.specs.declared.event.Event.{Event}
 use Rattle.event_journal.specs.declared.event.Event.TheVariants.{Exit}
 use Rattle.kernel_model.specs.Application.{Booted}
 use Rattle.play_model.specs.Play.{Play, enters, entry_event, leaves, unless_refused}
+use Rattle.play_model.proofs.Adds.{some_is}
 use Rattle.play_model.proofs.Entries.{CameIn, Entered, WasRefused, entered, event_made, left}
-use Rattle.play_model.proofs.LinesStay.{some_is}
 use Rattle.smc_abi.specs.declared.regs.Regs.{Regs}
 use Rattle.teec.specs.Calls.{Call}
 use Rattle.teec.specs.Rounds.{Calls, Cancels, Ended, Failed, Resumes, Stage}

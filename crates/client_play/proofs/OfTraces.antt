@@ -18,9 +18,10 @@ use Rattle.ns_ram.specs.Writes.{Write, lane_after}
 use Rattle.ns_ram.specs.declared.read.Read.{Read}
 use Rattle.play_model.specs.Line.{Line, Ret}
 use Rattle.play_model.specs.Play.{Play, after_item, after_items, enters, enters_with, entry_event, first_play, lane_of, last_answer, leaves, number_in, reads_of, unless_refused, visit_of}
+use Rattle.play_model.proofs.Adds.{some_is}
 use Rattle.play_model.proofs.Entries.{CameIn, Entered, WasRefused, entered, left}
 use Rattle.play_model.proofs.EventsCome.{exits_come}
-use Rattle.play_model.proofs.LinesStay.{plays_go_on, some_is}
+use Rattle.play_model.proofs.LinesStay.{plays_go_on}
 use Rattle.play_model.proofs.TrueToKernel.{plays_are_true}
 use Rattle.smc_abi.specs.declared.regs.Regs.{Regs}
 use Rattle.teec.specs.Calls.{Call}

@@ -34,9 +34,9 @@ use Rattle.ns_ram.specs.declared.read.Read.{Read}
 use Rattle.ns_ram.proofs.ReaderLaws.{over_lane-reading}
 use Rattle.own_model.proofs.FixedAnswers as fixed
 use Rattle.play_model.specs.Play.{Play, enters, enters_with, entry_event, lane_of, leaves, reads_of, with_event}
+use Rattle.play_model.proofs.Adds.{some_is}
 use Rattle.play_model.proofs.Entries.{left}
 use Rattle.play_model.proofs.EventsCome.{exits_come}
-use Rattle.play_model.proofs.LinesStay.{some_is}
 use Rattle.session_table.specs.declared.session.Session.{Session}
 use Rattle.smc_abi.specs.Answer.{registers_of}
 use Rattle.smc_abi.specs.Call.{call_of}

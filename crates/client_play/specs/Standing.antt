@@ -1,6 +1,6 @@
 -- A client over a core: what stands between two SMCs, and one call from its first SMC to its end. The SMCs are those of
 -- processor 0, whose RAM the client shares.
-use Rattle.std.specs.Prelude.{ℕ, zero, suc, List, [], ◌∷◌, Option, Some, None}
+use Rattle.std.specs.Prelude.{ℕ, zero, suc, ◌^◌, List, [], ◌∷◌, Option, Some, None}
 use Rattle.std.specs.Option.{option_and_then, option_map_or}
 use Rattle.event_journal.specs.declared.event.Event.{Event}
 use Rattle.kernel_model.specs.Application.{Booted}
@@ -34,8 +34,14 @@ visit_with regs = record { cpu = 0; regs = regs.a; steps = steps_granted }
 
 -- what stands, as a play of a trace in which nothing was printed
 abbrev pub play_of : Standing → Play
-play_of standing =
-    record { kernel = standing.kernel; history = standing.history; lanes = standing.ram ∷ []; lines = []; refused = None }
+play_of standing = record {
+  kernel = standing.kernel;
+  history = standing.history;
+  lanes = standing.ram ∷ [];
+  lines = [];
+  refused = None;
+  most_bytes = 2 ^ 28;
+}
 
 -- the play after the SMC with these registers: processor 0 enters and exits, unless its entry is refused
 abbrev pub after_smc : Booted → Regs → Standing → Option Play
