@@ -1,5 +1,5 @@
 -- Each event of a legal history keeps the limits of journals.
-use Rattle.std.proofs.Common.{◌≡◌, ℕ, ◌<◌, ◌≤◌, ◌^◌, List, [], ◌∷◌, ◌++◌, Option, Some, refl, ap, subst, ◌∙◌}
+use Rattle.std.proofs.Common.{◌≡◌, ℕ, ◌<◌, ◌≤◌, ◌^◌, List, [], ◌∷◌, ◌++◌, Option, Some, refl, ap, subst, ◌∙◌, arith}
 use Rattle.std.proofs.lemmas.List.Elements.{All-from_recursion}
 use Rattle.std.proofs.lemmas.Option.{option_and_then_some, slice_get_within}
 use Rattle.std.specs.Prelude.{slice_get}
@@ -21,7 +21,7 @@ use Rattle.kernel_model.specs.Kernel.{Kernel, Processor, first_kernel}
 use Rattle.kernel_model.specs.Turns.{IsReadOfRam, ReadsRam}
 use Rattle.kernel_state.proofs.CoreEvents.{came_in, core_is_legal, few_steps, some_steps}
 use Rattle.kernel_state.proofs.Told.{few_bytes}
-use Rattle.kernel_state.specs.Meaning.{booted_of, events_of}
+use Rattle.kernel_state.specs.Meaning.{booted_of, events_of, terms_of}
 use Rattle.ns_ram.specs.declared.read.Read.{Read}
 
 sound_reads : (reads : List Read) → AllByRecursion IsReadOfRam reads → AllByRecursion IsSoundRead reads
@@ -73,5 +73,7 @@ sound_history boot history legal few =
 pub core_journals_are_sound : CoreJournalsAreSound
 core_journals_are_sound = record {
   legal = sound_history;
-  of_core = λ core. sound_history (booted_of core) (events_of core) (core_is_legal core) (few_bytes core.parts core.replay);
+  of_core = λ core most.
+      let few : copied_bytes (events_of core) ≤ (terms_of core).most = few_bytes core.parts core.replay in
+      sound_history (booted_of core) (events_of core) (core_is_legal core) (omega (arith, few, most));
 }

@@ -1,7 +1,7 @@
 -- The history of each play is steady: what an entry reads are bytes of its processor's RAM.
 use Rattle.std.proofs.Common.{◌≡◌, ℕ, Bool, true, false, List, [], ◌∷◌, Option, Some, None, sym, ap, subst}
 use Rattle.std.proofs.lemmas.Option.{option_and_then_some}
-use Rattle.std.specs.Prelude.{◌+◌, ◌^◌, AllPairs, nat_lt, if◌then◌else◌}
+use Rattle.std.specs.Prelude.{◌+◌, AllPairs, nat_lt, if◌then◌else◌}
 use Rattle.audit_model.proofs.Deciding.{steady_behind}
 use Rattle.audit_model.proofs.EachVerdict.{faultless_can_begin}
 use Rattle.audit_model.specs.Verdicts.{IsFaultless, IsSteady}
@@ -53,7 +53,7 @@ enter_steady : (boot : Booted) (visit : Visit) (before after : Play) → IsStead
 enter_steady boot visit before after steady e =
     option_and_then_some (enters_with boot before visit) (reads_of boot before visit) after e
     (λ (reads : List Read) there onward.
-    entered_steady boot visit before after reads (nat_lt (2 ^ 28) (copied_bytes before.history + total_bytes reads)) steady
+    entered_steady boot visit before after reads (nat_lt before.most_bytes (copied_bytes before.history + total_bytes reads)) steady
     (reads_agree boot before visit reads there) onward)
 
 -- ---- an exit

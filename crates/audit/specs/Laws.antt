@@ -9,7 +9,7 @@ use Rattle.core_at_work.specs.Booting.{IsApart}
 use Rattle.kernel_model.specs.Application.{Booted, IsBooted, Native, booted}
 use Rattle.kernel_model.specs.History.{IsLegal}
 use Rattle.kernel_state.specs.Booting.{IsWithinLimits}
-use Rattle.kernel_state.specs.Meaning.{booted_of, events_of}
+use Rattle.kernel_state.specs.Meaning.{booted_of, events_of, terms_of}
 use Rattle.kernel_state.specs.declared.kernel_core.Core.{Core}
 use Rattle.play_model.specs.Play.{Play, played_over}
 use Rattle.ta_isa.specs.declared.boot.Boot.{Boot}
@@ -20,8 +20,8 @@ pub record CoreJournalsAreSound : Type 0 where
   -- a legal history keeps the limits of journals that can be written, where its entries have read at most 2^28 bytes
   pub legal : (boot : Booted) (history : List Event) → IsLegal boot history → copied_bytes history ≤ 2 ^ 28 →
       IsSoundJournal boot.cpus history
-  -- and so does the journal of each core
-  pub of_core : (core : Core) → IsSoundJournal (booted_of core).cpus (events_of core)
+  -- and so does the journal of each core whose entries may read no more
+  pub of_core : (core : Core) → (terms_of core).most ≤ 2 ^ 28 → IsSoundJournal (booted_of core).cpus (events_of core)
 
 -- the history of a play is legal, and the reads of each entry agree: so the verdict on it is Legal
 pub record IsFaultlessPlay (boot : Booted) (play : Play) : Type 0 where

@@ -203,6 +203,7 @@ module _ (boot : Booted) (place : Client) (names : Sessions) (old now : Calling 
         kernel = ap (λ (on : Booted). kernel_after on now.world.history) over.boots ∙ core.there;
         history = refl;
         ram = ap (λ (scene : Scene). Some scene.ram) (sym ready);
+        limit = refl;
         goes_on = refl;
       } in
       let left = place.room - length stopped.went.smcs in

@@ -55,8 +55,8 @@ impl<B: OfBoot> ScriptPlayer<B> {
         ensures names { result.names ≡ [] }
         ensures over { IsOver B.booted result.client.world }
     {
-        // What is known of each port is told with its history.
-        let _events = port.history();
+        // What is known of each port.
+        port.recall();
         ScriptPlayer {
             client: Client::new(alloc, port, RETRIES, ROUNDS),
             names: OpenedNames::new(alloc),
@@ -67,7 +67,7 @@ impl<B: OfBoot> ScriptPlayer<B> {
     fn is_over(&self)
         ensures { IsOver B.booted self.now.client.world }
     {
-        let _events = self.client.world().history();
+        self.client.world().recall();
     }
 
     /// Opens a session under a name.

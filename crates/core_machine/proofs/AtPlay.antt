@@ -1,5 +1,5 @@
 -- What an entry and an exit of a core are in the play at which it stands.
-use Rattle.std.proofs.Common.{◌≡◌, ℕ, ◌+◌, ◌<◌, ◌≤◌, ◌^◌, Bool, List, [], ◌∷◌, ◌++◌, Option, Some, refl, ap}
+use Rattle.std.proofs.Common.{◌≡◌, ℕ, ◌+◌, ◌<◌, ◌≤◌, Bool, List, [], ◌∷◌, ◌++◌, Option, Some, refl, ap}
 use Rattle.std.proofs.Common.{sym, subst, ◌∙◌, arith}
 use Rattle.std.specs.Prelude.{IsSome, if◌then◌else◌}
 use Rattle.std.specs.Option.{option_and_then, option_map}
@@ -22,8 +22,9 @@ use Rattle.kernel_model.proofs.Suspended.{only_one}
 use Rattle.kernel_state.specs.Entering.{Coming, HasEntered, IsTooMuch, bytes_read, visit_of}
 use Rattle.kernel_state.specs.Laws.{CoreExit}
 use Rattle.kernel_state.specs.Leaving.{HasLeft}
-use Rattle.kernel_state.specs.Meaning.{booted_of, events_of, kernel_of}
+use Rattle.kernel_state.specs.Meaning.{booted_of, events_of, kernel_of, terms_of}
 use Rattle.kernel_state.specs.declared.kernel_core.Core.{Core}
+use Rattle.kernel_state.specs.declared.terms.Terms.{Terms}
 use Rattle.kernel_state.specs.declared.work.Ran.{Ran}
 use Rattle.kernel_state.specs.declared.work.Work.{Work}
 use Rattle.kernel_state.proofs.CoreEvents.{events_onward, journals_legal}
@@ -41,6 +42,7 @@ pub record CoreAt (boot : Booted) (play : Play) (core : Core) : Type 0 where
   pub booted : booted_of core ≡ boot
   pub history : events_of core ≡ play.history
   pub kernel : kernel_of core ≡ Some play.kernel
+  pub limit : (terms_of core).most ≡ play.most_bytes
 
 -- ---- an entry
 
@@ -73,16 +75,20 @@ module _ (boot : Booted) (play : Play) (old new : Core) (coming : Coming) (lane 
       (events_onward (booted_of old) (booted_of new) (events_of old) (event_of ∷ []) (events_of new) play.kernel next
       has.boot has.events at.kernel after))
 
-  few : copied_bytes play.history + total_bytes has.reads ≤ 2 ^ 28
+  limit_after : (terms_of new).most ≡ play.most_bytes
+  limit_after = ap (λ (terms : Terms). terms.most) has.terms ∙ at.limit
+
+  few : copied_bytes play.history + total_bytes has.reads ≤ play.most_bytes
   few =
-      subst (λ (n : ℕ). n ≤ 2 ^ 28) (ap copied_bytes history_after ∙ copied_with play.history coming has.reads)
-      (few_bytes new.parts new.replay)
+      subst (λ (n : ℕ). n ≤ play.most_bytes)
+      (ap copied_bytes history_after ∙ copied_with play.history coming has.reads)
+      (subst (λ (n : ℕ). copied_bytes (events_of new) ≤ n) limit_after (few_bytes new.parts new.replay))
 
   with_them : enters_with boot play (visit_of coming) has.reads ≡ Some (came_in play next coming has.reads)
   with_them =
       ap (λ (much : Bool). if much then Some (record play { refused = Some (total_bytes has.reads) })
       else option_map (λ (k : Kernel). came_in play k coming has.reads) (after_event boot play.kernel event_of))
-      (le-ltb (2 ^ 28) (copied_bytes play.history + total_bytes has.reads) few)
+      (le-ltb play.most_bytes (copied_bytes play.history + total_bytes has.reads) few)
       ∙ ap (option_map (λ (k : Kernel). came_in play k coming has.reads)) follows
 
   pub entry_comes : enters boot play (visit_of coming) ≡ Some (came_in play next coming has.reads)
@@ -94,7 +100,12 @@ module _ (boot : Booted) (play : Play) (old new : Core) (coming : Coming) (lane 
       ∙ with_them
 
   pub entry_at : CoreAt boot (came_in play next coming has.reads) new
-  entry_at = record { booted = has.boot ∙ at.booted; history = history_after; kernel = after }
+  entry_at = record {
+    booted = has.boot ∙ at.booted;
+    history = history_after;
+    kernel = after;
+    limit = limit_after;
+  }
 
 -- one that is refused is refused in the play
 pub entry_refused : (boot : Booted) (play : Play) (core : Core) (visitor : Visitor) (lane : List ℕ) (copied more : ℕ)
@@ -113,9 +124,10 @@ entry_refused boot play core visitor lane copied more at sees much =
     ap (λ (l : List ℕ). option_map (λ (end : Kernel × List Read). end.1)
     (over_lane (entry boot play.kernel visit) l [])) sees
     ∙ ap (option_map (λ (end : Kernel × List Read). end.1)) found.1 in
-    let above : 2 ^ 28 < copied_bytes play.history + total_bytes found.0.1 =
-    subst (λ (n : ℕ). 2 ^ 28 < copied_bytes play.history + n) (sym found.2)
-    (subst (λ (n : ℕ). 2 ^ 28 < n + more) so_far much.above) in
+    let above : play.most_bytes < copied_bytes play.history + total_bytes found.0.1 =
+    subst (λ (n : ℕ). play.most_bytes < copied_bytes play.history + n) (sym found.2)
+    (subst (λ (n : ℕ). play.most_bytes < n + more) so_far
+    (subst (λ (n : ℕ). n < copied + more) at.limit much.above)) in
     record {
       so_far = so_far;
       ends =
@@ -123,7 +135,7 @@ entry_refused boot play core visitor lane copied more at sees much =
           ∙ ap (λ (is : Bool). if is then Some (record play { refused = Some (total_bytes found.0.1) })
           else option_map (λ (k : Kernel). came_in play k (coming_of visitor) found.0.1)
           (after_event boot play.kernel (Entry visitor.cpu visitor.regs visitor.steps found.0.1)))
-          (lt-ltb (2 ^ 28) (copied_bytes play.history + total_bytes found.0.1) above)
+          (lt-ltb play.most_bytes (copied_bytes play.history + total_bytes found.0.1) above)
           ∙ ap (λ (n : ℕ). Some (record play { refused = Some n })) found.2;
     }
 
@@ -173,4 +185,5 @@ module _ (boot : Booted) (play : Play) (old new : Core) (ran : Ran) (lane now : 
     history = has.events ∙ ap (λ (events : List Event). events ++ Exit ran.cpu told ∷ []) at.history
         ∙ ap (λ (regs : Regs). play.history ++ Exit ran.cpu regs ∷ []) told_is;
     kernel = after ∙ ap Some next_is;
+    limit = ap (λ (terms : Terms). terms.most) has.terms ∙ at.limit;
   }

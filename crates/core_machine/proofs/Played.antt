@@ -21,9 +21,10 @@ use Rattle.kernel_entry.specs.declared.visitor.Visitor.{Visitor}
 use Rattle.kernel_model.specs.Application.{Booted}
 use Rattle.kernel_model.specs.Kernel.{Kernel, Outside}
 use Rattle.kernel_state.specs.Entering.{CanEnter, IsAsBefore, visit_of}
-use Rattle.kernel_state.specs.Meaning.{is_inside, kernel_of}
+use Rattle.kernel_state.specs.Meaning.{is_inside, kernel_of, terms_of}
 use Rattle.kernel_state.specs.declared.enter_refusal.EnterRefusal.{EnterRefusal}
 use Rattle.kernel_state.specs.declared.enter_refusal.EnterRefusal.TheVariants.{Full, Memory}
+use Rattle.kernel_state.specs.declared.terms.Terms.{Terms}
 use Rattle.kernel_state.proofs.CoreEvents.{some_kernel}
 use Rattle.ns_ram.specs.Writes.{lane_after}
 use Rattle.play_model.specs.Line.{Ret}
@@ -87,8 +88,14 @@ all_come machine inside smcs told =
 -- a machine of a core that stands at a play stands there too, over the play's lanes
 stands_so : (boot : Booted) (play : Play) (machine : Machine) → CoreAt boot play machine.at_work.core →
     machine.lanes.items ≡ play.lanes → play.refused ≡ None → IsAt boot play machine
-stands_so boot play machine at lanes going =
-    record { booted = at.booted; history = at.history; kernel = at.kernel; lanes = lanes; goes_on = going }
+stands_so boot play machine at lanes going = record {
+  booted = at.booted;
+  history = at.history;
+  kernel = at.kernel;
+  limit = at.limit;
+  lanes = lanes;
+  goes_on = going;
+}
 
 enters_at : (boot : Booted) (play : Play) (old machine : Machine) (visitor : Visitor) (lane : List ℕ) →
     IsAt boot play old → lane_of play visitor.cpu ≡ lane → machine.lanes.items ≡ old.lanes.items →
@@ -113,6 +120,7 @@ still_at boot play old machine at lanes same =
       booted = same.boot ∙ at.booted;
       history = same.events ∙ at.history;
       kernel = kernel_as_before old.at_work.core machine.at_work.core same ∙ at.kernel;
+      limit = ap (λ (terms : Terms). terms.most) same.terms ∙ at.limit;
       lanes = lanes ∙ at.lanes;
       goes_on = at.goes_on;
     }
@@ -128,6 +136,13 @@ enters_so boot play old machine visitor lane (Err (Full copied more)) at sees la
   still_at boot play old machine at lanes come.0,
 )
 enters_so boot play old machine visitor lane (Err Memory) at sees lanes come = still_at boot play old machine at lanes come.0
+
+-- whether it has come in or not, the terms stay
+pub terms_so : (old machine : Machine) (visitor : Visitor) (lane : List ℕ) (result : Result (Unit {0}) EnterRefusal) →
+    ComesIn old.at_work machine.at_work visitor lane result → terms_of machine.at_work.core ≡ terms_of old.at_work.core
+terms_so old machine visitor lane (Ok done) come = come.entered.terms
+terms_so old machine visitor lane (Err (Full copied more)) come = come.0.terms
+terms_so old machine visitor lane (Err Memory) come = come.0.terms
 
 -- ---- an exit
 

@@ -23,7 +23,7 @@ use Rattle.kernel_entry.specs.declared.visitor.Visitor.{Visitor}
 use Rattle.kernel_model.specs.Application.{Booted}
 use Rattle.kernel_model.specs.Kernel.{Kernel, Visit}
 use Rattle.kernel_state.specs.Entering.{visit_of}
-use Rattle.kernel_state.specs.Meaning.{booted_of, events_of, kernel_of}
+use Rattle.kernel_state.specs.Meaning.{booted_of, events_of, kernel_of, terms_of}
 use Rattle.kernel_state.specs.declared.enter_refusal.EnterRefusal.{EnterRefusal}
 use Rattle.kernel_state.specs.declared.enter_refusal.EnterRefusal.TheVariants.{Full, Memory}
 use Rattle.kernel_state.proofs.CoreEvents.{core_is_legal, some_kernel}
@@ -80,6 +80,10 @@ come_more boot play done smc mid new answers more have one = record {
 
 -- ---- what one makes of who is inside, and of the events
 
+-- the core keeps its terms
+abbrev pub KeepsTerms : Machine → Machine → Type 0
+KeepsTerms old new = terms_of new.at_work.core ≡ terms_of old.at_work.core
+
 -- what an entry or an exit makes of a play
 record Moves (play next : Play) (smc : Smc) : Type 0 where
   inside : insides next.kernel ≡ inside_after (insides play.kernel) smc
@@ -116,6 +120,7 @@ moves boot play next (Leaves cpu) e going =
 
 -- the play of a machine, and the one after an entry or an exit that has come to it
 record Onward (old new : Machine) (smc : Smc) : Type 0 where
+  terms : KeepsTerms old new
   kernel : Kernel
   there : kernel_of old.at_work.core ≡ Some kernel
   next : Play
@@ -129,6 +134,7 @@ onward old new before after smc one =
     let play = play_of old kernel.0 in
     let come = one.at (booted_of old.at_work.core) play (stands old kernel.0 kernel.1) in
     record {
+      terms = one.terms;
       kernel = kernel.0;
       there = kernel.1;
       next = come.next;
@@ -140,9 +146,10 @@ onward old new before after smc one =
 -- ---- the events
 
 pub same_events : (old new : Machine) (boot : booted_of new.at_work.core ≡ booted_of old.at_work.core) →
-    events_of new.at_work.core ≡ events_of old.at_work.core → Extends old new
-same_events old new boot same = record {
+    KeepsTerms old new → events_of new.at_work.core ≡ events_of old.at_work.core → Extends old new
+same_events old new boot terms same = record {
   boot = boot;
+  terms = terms;
   more = [];
   events = same ∙ sym (append-nil (events_of old.at_work.core));
   legal = core_is_legal new.at_work.core;
@@ -151,6 +158,7 @@ same_events old new boot same = record {
 pub further : (old mid new : Machine) → Extends old mid → Extends mid new → Extends old new
 further old mid new first second = record {
   boot = second.boot ∙ first.boot;
+  terms = second.terms ∙ first.terms;
   more = first.more ++ second.more;
   events = second.events ∙ ap (λ (events : List Event). events ++ second.more) first.events
       ∙ append_assoc (events_of old.at_work.core) first.more second.more;
@@ -160,6 +168,7 @@ further old mid new first second = record {
 extends_one : (old new : Machine) (smc : Smc) → Onward old new smc → Extends old new
 extends_one old new smc on = record {
   boot = on.at.booted;
+  terms = on.terms;
   more = on.moved.event ∷ [];
   events = on.at.history ∙ on.moved.history;
   legal = core_is_legal new.at_work.core;
@@ -181,7 +190,7 @@ served_none old before smcs can = record {
   added = sym (append-nil before);
   at = λ boot play at. record { next = play; comes = refl; at = at; lines = sym (append-nil play.lines) };
   can = can;
-  extends = same_events old old refl refl;
+  extends = same_events old old refl refl refl;
 }
 
 -- the next of the list, where it stands
@@ -229,6 +238,7 @@ pub served_all : (old now : Machine) (before answers : List Told) (smcs : List S
 served_all old now before answers smcs count so whole = record {
   told = so.told;
   added = so.added;
+  terms = so.extends.terms;
   at = λ boot play at. subst (λ (done : List Smc). HasCome boot play done now so.told) whole (so.at boot play at);
 }
 
@@ -246,6 +256,7 @@ pub served_part : (old now new : Machine) (before answers after : List Told) (sm
 served_part old now new before answers after smcs count smc why so is few one = record {
   told = so.told ++ one.told;
   added = one.added ∙ ap (λ (told : List Told). told ++ one.told) so.added ∙ append_assoc before so.told one.told;
+  terms = one.terms ∙ so.extends.terms;
   at = λ boot play at.
       let have = so.at boot play at in
       let not = one.at boot have.next have.at in
@@ -269,7 +280,7 @@ pub extends_none : (old new : Machine) (before after : List Told) (smc : Smc) (w
 extends_none old new before after smc why one =
     let kernel = some_kernel old.at_work.core in
     let not = one.at (booted_of old.at_work.core) (play_of old kernel.0) (stands old kernel.0 kernel.1) in
-    same_events old new not.0.booted not.0.history
+    same_events old new not.0.booted one.terms not.0.history
 
 -- ---- an entry and an exit, as one of a list
 
@@ -300,30 +311,34 @@ entry_come boot play visitor machine at new has =
 
 pub one_entry : (old new : Machine) (answers : List Told) (visitor : Visitor)
     (result : Result (Unit {0}) EnterRefusal) →
-    ((boot : Booted) (play : Play) → IsAt boot play old → EntersAt boot play visitor new result) →
+    ((boot : Booted) (play : Play) → IsAt boot play old → EntersAt boot play visitor new result) → KeepsTerms old new →
     ServesOne old new answers answers (Comes visitor) result
-one_entry old new answers visitor (Ok done) enters = record {
+one_entry old new answers visitor (Ok done) enters terms = record {
   told = [];
   added = sym (append-nil answers);
+  terms = terms;
   at = λ boot play at. entry_come boot play visitor old at new (enters boot play at);
 }
-one_entry old new answers visitor (Err (Full copied more)) enters = record {
+one_entry old new answers visitor (Err (Full copied more)) enters terms = record {
   told = [];
   added = sym (append-nil answers);
+  terms = terms;
   at = λ boot play at. let not = enters boot play at in (not.1, refl, not.0);
 }
-one_entry old new answers visitor (Err Memory) enters = record {
+one_entry old new answers visitor (Err Memory) enters terms = record {
   told = [];
   added = sym (append-nil answers);
+  terms = terms;
   at = λ boot play at. (enters boot play at, refl, tt);
 }
 
 pub one_exit : (old new : Machine) (before after : List Told) (cpu : ℕ) (regs : Regs) →
-    ((boot : Booted) (play : Play) → IsAt boot play old → LeavesAt boot play cpu new regs) →
+    ((boot : Booted) (play : Play) → IsAt boot play old → LeavesAt boot play cpu new regs) → KeepsTerms old new →
     after ≡ before ++ record { cpu = cpu; regs = regs } ∷ [] → ServesOne old new before after (Leaves cpu) (Ok tt)
-one_exit old new before after cpu regs leaves_it added = record {
+one_exit old new before after cpu regs leaves_it terms added = record {
   told = record { cpu = cpu; regs = regs } ∷ [];
   added = added;
+  terms = terms;
   at = λ boot play at.
       let found = found_in (leaves boot cpu play) _ (leaves_it boot play at) in
       record {

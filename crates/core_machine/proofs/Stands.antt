@@ -28,11 +28,13 @@ abbrev is_in : Processor → Bool
 is_in processor = not (is_outside processor)
 
 pub core_at : (boot : Booted) (play : Play) (machine : Machine) → IsAt boot play machine → CoreAt boot play machine.at_work.core
-core_at boot play machine at = record { booted = at.booted; history = at.history; kernel = at.kernel }
+core_at boot play machine at =
+    record { booted = at.booted; history = at.history; kernel = at.kernel; limit = at.limit }
 
 pub stands : (machine : Machine) (kernel : Kernel) → kernel_of machine.at_work.core ≡ Some kernel →
     IsAt (booted_of machine.at_work.core) (play_of machine kernel) machine
-stands machine kernel e = record { booted = refl; history = refl; kernel = e; lanes = refl; goes_on = refl }
+stands machine kernel e =
+    record { booted = refl; history = refl; kernel = e; limit = refl; lanes = refl; goes_on = refl }
 
 -- what holds of the play's kernel holds of the machine's
 pub kernel_has : (boot : Booted) (play : Play) (machine : Machine) (P : Kernel → Type 0) → IsAt boot play machine →

@@ -10,7 +10,7 @@ use Rattle.core_machine.specs.declared.smc.Told.{Told}
 use Rattle.event_journal.specs.declared.event.Event.{Event}
 use Rattle.kernel_model.specs.Application.{Booted}
 use Rattle.kernel_model.specs.History.{IsLegal}
-use Rattle.kernel_state.specs.Meaning.{booted_of, events_of}
+use Rattle.kernel_state.specs.Meaning.{booted_of, events_of, terms_of}
 use Rattle.kernel_state.specs.declared.enter_refusal.EnterRefusal.{EnterRefusal}
 use Rattle.kernel_state.specs.declared.enter_refusal.EnterRefusal.TheVariants.{Full, Memory}
 use Rattle.play_model.specs.Line.{Line, Ret}
@@ -66,9 +66,10 @@ pub record Serves (old new : Machine) (before after : List Told) (smcs : List Sm
 
 -- ---- the events
 
--- they extend those before, and are legal
+-- they extend those before, and are legal; and the core's terms stay
 pub record Extends (old new : Machine) : Type 0 where
   pub boot : booted_of new.at_work.core ≡ booted_of old.at_work.core
+  pub terms : terms_of new.at_work.core ≡ terms_of old.at_work.core
   pub more : List Event
   pub events : events_of new.at_work.core ≡ events_of old.at_work.core ++ more
   pub legal : IsLegal (booted_of new.at_work.core) (events_of new.at_work.core)
@@ -86,4 +87,5 @@ pub record ServesOne (old new : Machine) (before after : List Told) (smc : Smc)
     (result : Result (Unit {0}) EnterRefusal) : Type 0 where
   pub told : List Told
   pub added : after ≡ before ++ told
+  pub terms : terms_of new.at_work.core ≡ terms_of old.at_work.core
   pub at : (boot : Booted) (play : Play) → IsAt boot play old → ServesOneAt boot play smc new told result

@@ -6,22 +6,30 @@ use Rattle.core_machine.specs.declared.machine.Machine.{Machine}
 use Rattle.core_machine.specs.declared.smc.Smc.{Smc}
 use Rattle.kernel_model.specs.Application.{Booted}
 use Rattle.kernel_model.specs.Kernel.{Kernel, first_kernel}
-use Rattle.kernel_state.specs.Meaning.{booted_of, events_of, kernel_of}
+use Rattle.kernel_state.specs.Meaning.{booted_of, events_of, kernel_of, terms_of}
 use Rattle.play_model.specs.Play.{Play}
 
--- its core was booted so, and has the play's history and kernel; its processors see the play's RAM; and no entry was
--- refused. Of the lines that are printed it knows nothing
+-- its core was booted so, has the play's history and kernel, and lets its entries read as much as the play does; its
+-- processors see the play's RAM; and no entry was refused. Of the lines that are printed it knows nothing, and the play
+-- doesn't know whether the core keeps its events
 pub record IsAt (boot : Booted) (play : Play) (machine : Machine) : Type 0 where
   pub booted : booted_of machine.at_work.core ≡ boot
   pub history : events_of machine.at_work.core ≡ play.history
   pub kernel : kernel_of machine.at_work.core ≡ Some play.kernel
+  pub limit : (terms_of machine.at_work.core).most ≡ play.most_bytes
   pub lanes : machine.lanes.items ≡ play.lanes
   pub goes_on : play.refused ≡ None
 
--- a play where nothing has happened, with this RAM
-abbrev pub begun : Booted → List (List ℕ) → Play
-begun boot lanes =
-    record { kernel = first_kernel boot; history = []; lanes = lanes; lines = []; refused = None }
+-- a play where nothing has happened, with this RAM, whose entries may read so many bytes
+abbrev pub begun : ℕ → Booted → List (List ℕ) → Play
+begun most_bytes boot lanes = record {
+  kernel = first_kernel boot;
+  history = [];
+  lanes = lanes;
+  lines = [];
+  refused = None;
+  most_bytes = most_bytes;
+}
 
 -- the play of a machine with this kernel, which has printed nothing
 abbrev pub play_of : Machine → Kernel → Play
@@ -31,6 +39,7 @@ play_of machine kernel = record {
   lanes = machine.lanes.items;
   lines = [];
   refused = None;
+  most_bytes = (terms_of machine.at_work.core).most;
 }
 
 -- ---- what can come

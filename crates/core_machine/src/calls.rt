@@ -5,7 +5,7 @@ ghost use Rattle.core_machine.specs.Moving.{EntersAt, LeavesAt};
 ghost use Rattle.core_machine.specs.Standing.{CanCome, IsAt, begun};
 ghost use Rattle.core_machine.specs.declared.smc.Smc.TheVariants as smc;
 ghost use Rattle.kernel_model.specs.Application.{Booted};
-ghost use Rattle.kernel_state.specs.Meaning.{booted_of, events_of, is_inside};
+ghost use Rattle.kernel_state.specs.Meaning.{booted_of, events_of, is_inside, terms_of};
 ghost use Rattle.ns_ram.specs.Lane.{IsInRam, bytes_at};
 ghost use Rattle.play_model.specs.Play.{Play, lane_of, with_writes};
 
@@ -23,7 +23,9 @@ impl Machine {
     pub fn new(alloc: Global, core: Core, lanes: Vec<Lane>) -> Result<Machine, NoMemory>
         requires fresh { events_of core ≡ [] }
         requires lanes { length lanes.items ≡ (booted_of core).cpus }
-        ensures { IfOk result (λ machine. IsAt (booted_of core) (begun (booted_of core) lanes.items) machine) }
+        ensures stands { IfOk result (λ machine.
+            IsAt (booted_of core) (begun (terms_of core).most (booted_of core) lanes.items) machine) }
+        ensures terms { IfOk result (λ machine. terms_of machine.at_work.core ≡ terms_of core) }
     {
         let at_work = CoreAtWork::new(alloc, core)?;
         Ok(Machine { at_work, lanes })
@@ -33,7 +35,8 @@ impl Machine {
     /// steps are done. Where it is refused the machine is as it was.
     pub fn enter(&mut self, alloc: Global, visitor: Visitor) -> Result<(), EnterRefusal>
         requires { CanCome self.old (smc.Comes visitor) }
-        ensures { (boot : Booted) (play : Play) → IsAt boot play self.old → EntersAt boot play visitor self.new result }
+        ensures enters { (boot : Booted) (play : Play) → IsAt boot play self.old → EntersAt boot play visitor self.new result }
+        ensures terms { terms_of self.new.at_work.core ≡ terms_of self.old.at_work.core }
     {
         let place = usize::from(visitor.cpu);
         self.at_work.enter(alloc, visitor, &self.lanes[place])
@@ -45,6 +48,7 @@ impl Machine {
         requires { CanCome self.old (smc.Leaves cpu) }
         ensures leaves { (boot : Booted) (play : Play) → IsAt boot play self.old → LeavesAt boot play cpu self.new result.regs }
         ensures panic { (boot : Booted) (play : Play) → IsAt boot play self.old → result.panic ≡ panic_of play.kernel cpu }
+        ensures terms { terms_of self.new.at_work.core ≡ terms_of self.old.at_work.core }
     {
         self.at_work.leave(cpu, &mut self.lanes[usize::from(cpu)])
     }
@@ -53,8 +57,9 @@ impl Machine {
     pub fn write(&mut self, cpu: u8, addr: u64, bytes: &[u8])
         requires cpu { cpu < (booted_of self.old.at_work.core).cpus }
         requires ram { IsInRam addr (length bytes.now) }
-        ensures { (boot : Booted) (play : Play) → IsAt boot play self.old
+        ensures written { (boot : Booted) (play : Play) → IsAt boot play self.old
             → IsAt boot (with_writes cpu (record { addr = addr; bytes = bytes.now } ∷ []) play) self.new }
+        ensures terms { terms_of self.new.at_work.core ≡ terms_of self.old.at_work.core }
     {
         self.lanes[usize::from(cpu)].write(addr, bytes);
     }

@@ -40,8 +40,9 @@ refuses port play regs more at wants much =
     let theirs : reads_of port.boot play visit ≡ Some found.0.1 =
     ap (λ (l : List ℕ). option_map (λ (end : Kernel × List Read). end.1) (over_lane (entry port.boot play.kernel visit) l [])) (sees play port.ram at.ram)
     ∙ ap (option_map (λ (end : Kernel × List Read). end.1)) found.1 in
-    let above : nat_lt (2 ^ 28) (copied_bytes play.history + total_bytes found.0.1) ≡ true =
-    ap (λ (n : ℕ). nat_lt (2 ^ 28) (copied_bytes play.history + n)) found.2
+    let above : nat_lt play.most_bytes (copied_bytes play.history + total_bytes found.0.1) ≡ true =
+    ap (λ (n : ℕ). nat_lt play.most_bytes (copied_bytes play.history + n)) found.2
+    ∙ ap (λ (most : ℕ). nat_lt most (copied_bytes play.history + more)) at.limit
     ∙ ap (λ history. nat_lt (2 ^ 28) (copied_bytes history + more)) at.history ∙ much in
     let ends : enters port.boot play visit ≡ Some (record play { refused = Some more }) =
     ap (λ (o : Option (List Read)). option_and_then (enters_with port.boot play visit) o) theirs

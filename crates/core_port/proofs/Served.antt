@@ -21,8 +21,9 @@ use Rattle.kernel_model.proofs.Parts.{set_found}
 use Rattle.kernel_model.proofs.StandingBy.{exit_sets}
 use Rattle.kernel_state.specs.Entering.{bytes_read}
 use Rattle.kernel_state.specs.Laws.{CoreEntry, CoreExit}
-use Rattle.kernel_state.specs.Meaning.{booted_of, events_of, kernel_of}
+use Rattle.kernel_state.specs.Meaning.{booted_of, events_of, kernel_of, terms_of}
 use Rattle.kernel_state.specs.declared.kernel_core.Core.{Core}
+use Rattle.kernel_state.specs.declared.terms.Terms.{Terms}
 use Rattle.kernel_state.proofs.CoreEvents.{core_is_legal, journals_legal, some_kernel}
 use Rattle.kernel_state.proofs.Told.{few_bytes}
 use Rattle.ns_ram.specs.Reader.{over_lane}
@@ -106,9 +107,9 @@ module _ (old new : Core) (lane now : List ℕ) (regs answer : Regs) (so : GoesT
 
   -- ---- in a play at which the port stands
 
-  module _ (play : Play) (there : StandsAt (record { boot = booted_of old; history = events_of old; ram = lane }) play) where
+  module _ (limit : (terms_of old).most ≡ 2 ^ 28) (play : Play) (there : StandsAt (record { boot = booted_of old; history = events_of old; ram = lane }) play) where
     at : CoreAt (booted_of old) play old
-    at = record { booted = refl; history = sym there.history; kernel = there.kernel }
+    at = record { booted = refl; history = sym there.history; kernel = there.kernel; limit = limit ∙ sym there.limit }
 
     came : enters (booted_of old) play (visit_with regs) ≡ Some (came_in play (some_kernel so.between).0 (coming_with regs) so.entered.reads)
     came = entry_comes (booted_of old) play old so.between (coming_with regs) lane so.work at (sees play lane there.ram) so.entered
@@ -146,6 +147,7 @@ module _ (old new : Core) (lane now : List ℕ) (regs answer : Regs) (so : GoesT
           ram = set_found play.lanes 0 (lane_after (slice_index_or play.lanes 0 []) so.left.exited.writes) lane there.ram
               ∙ ap (λ (ram : List ℕ). Some (lane_after ram so.left.exited.writes)) seen
               ∙ ap Some (sym so.left.writes);
+          limit = there.limit;
           goes_on = there.goes_on;
         }
 
@@ -159,8 +161,8 @@ module _ (old new : Core) (lane now : List ℕ) (regs answer : Regs) (so : GoesT
           ∙ sym so.left.answer;
     }
 
-  pub answers : Answers (view_of old lane) regs answer (view_of new now)
-  answers = record { boot = boot_is; in_play = comes_to }
+  pub answers : (terms_of old).most ≡ 2 ^ 28 → Answers (view_of old lane) regs answer (view_of new now)
+  answers limit = record { boot = boot_is; in_play = comes_to limit }
 
   -- ---- the SMC
 
@@ -208,6 +210,7 @@ module _ (old new : Core) (lane now : List ℕ) (regs answer : Regs) (so : GoesT
       let smc : Smc = record { regs = regs; reads = so.entered.reads; answer = answer; writes = so.left.exited.writes } in
       record {
         boots = boot_is ∙ port.boots;
+        limit = ap (λ (terms : Terms). terms.most) (so.left.terms ∙ so.entered.terms) ∙ port.limit;
         outside = outside;
         whole = still;
         just_these = history_is ∙ history_behind (events_of old) (smcs_of old) smc port.just_these ∙ ap history_of (sym smcs_are);
@@ -218,11 +221,13 @@ module _ (old new : Core) (lane now : List ℕ) (regs answer : Regs) (so : GoesT
 
   -- ---- its room
 
-  few_read : copied_bytes (events_of old) + total_bytes so.entered.reads ≤ 2 ^ 28
-  few_read =
+  few_read : (terms_of old).most ≡ 2 ^ 28 → copied_bytes (events_of old) + total_bytes so.entered.reads ≤ 2 ^ 28
+  few_read limit =
       let event = Entry 0 regs 10000 so.entered.reads in
       let sum = sum_by-append copied_by (events_of old) (event ∷ []) in
-      let all : copied_bytes (events_of so.between) ≤ 2 ^ 28 = few_bytes so.between.parts so.between.replay in
+      let all : copied_bytes (events_of so.between) ≤ 2 ^ 28 =
+      subst (λ (most : ℕ). copied_bytes (events_of so.between) ≤ most)
+      (ap (λ (terms : Terms). terms.most) so.entered.terms ∙ limit) (few_bytes so.between.parts so.between.replay) in
       let here : copied_bytes (events_of old ++ event ∷ []) ≤ 2 ^ 28 =
       subst (λ (events : List Event). copied_bytes events ≤ 2 ^ 28) so.entered.events all in
       omega (arith, sum, here)
@@ -241,4 +246,4 @@ module _ (old new : Core) (lane now : List ℕ) (regs answer : Regs) (so : GoesT
       ap (λ (b : Bool). b && not (is_full (view_of old lane) regs))
       (lt-ltb (length (smcs_of old)) 32768 (subst (λ (n : ℕ). n < 32768) (sym port.counted) few))
       ∙ ap (λ (o : Option ℕ). not (option_map_or (λ more. nat_lt (2 ^ 28) (copied_bytes (events_of old) + more)) o false)) wanted
-      ∙ ap not (le-ltb (2 ^ 28) (copied_bytes (events_of old) + total_bytes so.entered.reads) few_read)
+      ∙ ap not (le-ltb (2 ^ 28) (copied_bytes (events_of old) + total_bytes so.entered.reads) (few_read port.limit))

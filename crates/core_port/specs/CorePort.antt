@@ -49,11 +49,13 @@ has_room port regs = nat_lt (length (smcs_made port)) 32768 && not (is_full port
 
 -- ---- one SMC, in a play
 
--- the port stands at the play, whose first processor is the port's. Nothing was refused there, and it may have printed lines
+-- the port stands at the play, whose first processor is the port's, and whose entries may read 2^28 bytes. Nothing was refused
+-- there, and it may have printed lines
 pub record StandsAt (port : CoreView) (play : Play) : Type 0 where
   pub kernel : kernel_after port.boot port.history ≡ Some play.kernel
   pub history : play.history ≡ port.history
   pub ram : slice_get play.lanes 0 ≡ Some port.ram
+  pub limit : play.most_bytes ≡ 2 ^ 28
   pub goes_on : play.refused ≡ None
 
 -- the play after an SMC with these registers: the processor comes in and goes out, unless its entry is refused

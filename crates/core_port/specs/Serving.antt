@@ -1,10 +1,10 @@
 -- One entry and one exit of processor 0 of a core, and what is true of each port's core.
-use Rattle.std.specs.Prelude.{◌≡◌, ◌≤◌, ℕ, List, length, Result, Ok, Err}
+use Rattle.std.specs.Prelude.{◌≡◌, ◌≤◌, ◌^◌, ℕ, List, length, Result, Ok, Err}
 use Rattle.core_at_work.specs.Insides.{IsOutside}
 use Rattle.kernel_model.specs.Application.{Booted}
 use Rattle.kernel_state.specs.Entering.{Coming, HasEntered, IsAsBefore, IsTooMuch}
 use Rattle.kernel_state.specs.Leaving.{HasLeft}
-use Rattle.kernel_state.specs.Meaning.{booted_of, events_of}
+use Rattle.kernel_state.specs.Meaning.{booted_of, events_of, terms_of}
 use Rattle.kernel_state.specs.declared.enter_refusal.EnterRefusal.{EnterRefusal}
 use Rattle.kernel_state.specs.declared.enter_refusal.EnterRefusal.TheVariants.{Full, Memory}
 use Rattle.kernel_state.specs.declared.kernel_core.Core.{Core}
@@ -38,10 +38,11 @@ Serves old new lane now regs (Err Memory) = IsAsBefore old new × (now ≡ lane)
 abbrev pub smcs_of : Core → List Smc
 smcs_of core = smcs_in (booted_of core) (events_of core)
 
--- its core was booted so and its processor is outside, its lane has all bytes of RAM, its history is that of its SMCs, and as
--- many were made
+-- its core was booted so, and its entries may read 2^28 bytes; its processor is outside, its lane has all bytes of RAM, its history
+-- is that of its SMCs, and as many were made
 pub record IsPort (boot : Booted) (core : Core) (lane : List ℕ) (made : ℕ) : Type 0 where
   pub boots : booted_of core ≡ boot
+  pub limit : (terms_of core).most ≡ 2 ^ 28
   pub outside : IsOutside core 0
   pub whole : length lane ≡ 0x400000
   pub just_these : events_of core ≡ history_of (smcs_of core)

@@ -13,10 +13,9 @@ ghost use Rattle.trace_text.specs.Sound.{IsSoundBoot, IsSoundFill};
 use crate::of_boot::OfBoot;
 use crate::serving::{serve, whole};
 use base::NoMemory;
-use core_at_work::CoreAtWork;
+use core_at_work::{CoreAtWork, core_on};
 use core_machine::first_lane;
-use event_journal::Event;
-use kernel_state::EnterRefusal;
+use kernel_state::{EnterRefusal, Terms};
 use native_tas::Natives;
 use ns_ram::Lane;
 use smc_abi::Regs;
@@ -28,6 +27,12 @@ use trace_text::Fill;
 
 /// The most SMCs that a port makes.
 const MOST_SMCS: u32 = 32_768;
+
+/// The core counts its events, since nobody reads them, and its entries may read 2^28 bytes.
+const TERMS: Terms = Terms {
+    keeps: false,
+    most: 1 << 28,
+};
 
 /// A port over a core of a boot, whose processor 0 makes its SMCs and sees its RAM.
 #[derive(Drop)]
@@ -72,7 +77,8 @@ impl<B: OfBoot> CorePort<B> {
     {
         let lane = first_lane(alloc, fills)?;
         whole(&lane);
-        let at_work = CoreAtWork::booted(alloc, boot, natives)?;
+        let core = core_on(alloc, boot, natives, TERMS)?;
+        let at_work = CoreAtWork::new(alloc, core)?;
         Ok(CorePort {
             alloc,
             at_work,
@@ -82,15 +88,14 @@ impl<B: OfBoot> CorePort<B> {
         })
     }
 
-    /// All entries and exits of the core: those of the SMCs made, one behind the other, in a history that is legal from the
-    /// boot.
-    pub fn history(&self) -> &[Event]
-        ensures events { result.now ≡ self.now.history }
+    /// Nothing is done: what is true of each port. All entries and exits of its core are those of the SMCs made, one behind the
+    /// other, in a history that is legal from the boot.
+    pub fn recall(&self)
         ensures boot { self.now.boot ≡ B.booted }
         ensures kernels { IsKernels self.now }
         ensures few { copied_bytes self.now.history ≤ 2 ^ 28 }
     {
-        self.at_work.core.journal().as_slice()
+        let _copied = self.at_work.core.copied();
     }
 }
 

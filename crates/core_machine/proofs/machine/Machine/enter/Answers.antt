@@ -2,7 +2,7 @@
 use Rattle.std.proofs.Common.{arith, refl, ap, sym, ◌∙◌}
 use Rattle.core_at_work.proofs.Worked.{came_boot, outside_there}
 use Rattle.core_machine.proofs.Lanes.{lane_read, lane_there}
-use Rattle.core_machine.proofs.Played.{can_enter, enters_so}
+use Rattle.core_machine.proofs.Played.{can_enter, enters_so, terms_so}
 use Rattle.kernel_model.specs.Application.{Booted}
 use Rattle.core_machine.proofs.machine.Machine.enter.Goals as goal
 
@@ -25,10 +25,13 @@ invariant_of-self c =
           (came_boot old.at_work c.enter.new.self c.args.visitor c.index.result.now c.enter.result c.enter.ensures));
     }
 
-pub returns : goal.returns
-returns c boot play at =
+pub returns-clause-enters : goal.returns-clause-enters
+returns-clause-enters c boot play at =
     let old = c.args.self.now in
     let few = outside_there old.at_work c.args.visitor.cpu (can_enter old c.args.visitor c.requires).outside in
     let sees = lane_read play old c.from-place.result c.args.visitor.cpu c.index.result.now few c.from-place.ensures
     c.index.ensures at.lanes in
     enters_so boot play old _ c.args.visitor c.index.result.now c.enter.result at (sym sees) refl c.enter.ensures
+
+pub returns-clause-terms : goal.returns-clause-terms
+returns-clause-terms c = terms_so c.args.self.now _ c.args.visitor c.index.result.now c.enter.result c.enter.ensures

@@ -11,8 +11,8 @@ invariant_of-self c =
     let old = c.args.self.now in
     record { each_sees = length-set old.lanes.items c.from.result c.write.new.self ∙ old.each_sees }
 
-pub returns : goal.returns
-returns c boot play at =
+pub returns-clause-written : goal.returns-clause-written
+returns-clause-written c boot play at =
     let old = c.args.self.now in
     let lane = lane_read play old c.from.result c.args.cpu c.index_mut.result.now c.requires.cpu c.from.ensures
     c.index_mut.ensures.value at.lanes in
@@ -21,6 +21,7 @@ returns c boot play at =
       booted = at.booted;
       history = at.history;
       kernel = at.kernel;
+      limit = at.limit;
       lanes = ap (λ (n : ℕ). slice_set old.lanes.items n c.write.new.self) c.from.ensures
           ∙ ap (λ (all : List (List ℕ)). slice_set all c.args.cpu c.write.new.self) at.lanes
           ∙ ap (λ (l : List ℕ). slice_set play.lanes c.args.cpu l) written;

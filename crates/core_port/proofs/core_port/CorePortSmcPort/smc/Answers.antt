@@ -29,4 +29,5 @@ returns-in-Ok-clause-room g c =
 pub returns-in-Ok-clause-answers : goal.returns-in-Ok-clause-answers
 returns-in-Ok-clause-answers g c =
     subst (λ (view : CoreView). Answers view c.args.regs c.in-Ok.answer (view_of c.serve.new.at_work.core c.serve.new.lane)) c.self.view_is
-    (answers c.self.inside.at_work.core c.serve.new.at_work.core c.self.inside.lane c.serve.new.lane c.args.regs c.in-Ok.answer c.in-Ok.ensures.serves)
+    (answers c.self.inside.at_work.core c.serve.new.at_work.core c.self.inside.lane c.serve.new.lane c.args.regs c.in-Ok.answer c.in-Ok.ensures.serves
+    c.self.invariant.limit)
