@@ -4,12 +4,13 @@
 //! the kernel reads. An entry that read something else, and an exit with other registers, can't have been. Nothing is assumed
 //! of a journal, which may come from anybody.
 //!
-//! `laying` lays reads into RAM, `comparing` compares what was done, and `replay` has the core.
+//! `laying` lays reads into RAM, `comparing` compares what was done, and `redoing` does an event on the core that `replay` has.
 #![tactic(auto)]
 
 mod comparing;
 mod laws;
 mod laying;
+mod redoing;
 mod replay;
 
 pub use base::NoMemory;

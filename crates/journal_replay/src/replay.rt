@@ -1,32 +1,9 @@
-//! A core on which events are done again.
-ghost use Rattle.std.specs.Prelude.{◌≡◌, ◌↔◌, ◌≤◌, ◌^◌, [], ◌∷◌, ◌++◌, IfOk, IsTrue, Ok, true};
-ghost use Rattle.core_at_work.specs.Booting.{IsApart};
-ghost use Rattle.core_at_work.specs.Working.{HasComeIn};
-ghost use Rattle.event_journal.specs.Journal.{copied_bytes};
-ghost use Rattle.event_journal.specs.declared.event.Event.TheVariants.{Entry, Exit};
-ghost use Rattle.journal_replay.specs.Laying.{AreOfOneRam};
-ghost use Rattle.journal_replay.specs.Replaying.{Does, boot_of, done_by};
-ghost use Rattle.kernel_entry.specs.Visiting.{coming_of};
-ghost use Rattle.kernel_model.specs.Application.{booted};
-ghost use Rattle.kernel_state.specs.Booting.{IsWithinLimits};
-ghost use Rattle.kernel_state.specs.Entering.{CanEnter};
+ghost use Rattle.std.specs.Prelude.{◌≡◌};
 ghost use Rattle.kernel_state.specs.Meaning.{terms_of};
 ghost use Rattle.kernel_state.specs.Terms.{kept_terms};
-ghost use Rattle.native_tas.specs.Table.{entries};
-ghost use Rattle.ns_ram.specs.Reads.{HoldsReads};
 
-use crate::comparing::{are_same_regs, last_has_read};
-use crate::laying::lay;
-use base::NoMemory;
 use core_at_work::CoreAtWork;
-use event_journal::Event;
-use kernel_entry::Visitor;
-use kernel_state::EnterRefusal;
-use native_tas::Natives;
-use ns_ram::{Lane, Read};
-use smc_abi::Regs;
-use std::alloc::Global;
-use ta_isa::Boot;
+use ns_ram::Lane;
 
 /// A core on which the events of a journal are done again.
 #[derive(Drop)]
@@ -36,100 +13,4 @@ pub struct Replay {
     /// RAM, into which the bytes that an entry read are laid before it is done.
     pub lane: Lane,
     pub ghost kept: { terms_of at_work.core ≡ kept_terms },
-}
-
-impl Replay {
-    /// A core of this boot, where nothing has happened.
-    pub fn new(alloc: Global, boot: &Boot, natives: &Natives) -> Result<Replay, NoMemory>
-        requires limits { IsWithinLimits boot.now }
-        requires apart { IsApart boot.now (entries natives.now) }
-        ensures booted { IfOk result (λ replay. boot_of replay ≡ booted boot.now (entries natives.now)) }
-        ensures fresh { IfOk result (λ replay. done_by replay ≡ []) }
-    {
-        let lane = Lane::new(alloc)?;
-        let at_work = CoreAtWork::booted(alloc, boot.clone()?, natives)?;
-        Ok(Replay { at_work, lane })
-    }
-
-    /// Does an event again, and tells whether it can have come next. After one that can't, and after want of memory, the replay
-    /// is of no further use.
-    pub fn redo(&mut self, alloc: Global, event: &Event) -> Result<bool, NoMemory>
-        requires { copied_bytes (done_by self.old ++ event.now ∷ []) ≤ 2 ^ 28 }
-        ensures { Does self.old self.new event.now result }
-    {
-        match event {
-            Event::Entry {
-                cpu,
-                regs,
-                steps,
-                reads,
-            } => {
-                let visitor = Visitor {
-                    cpu: *cpu,
-                    regs: *regs,
-                    steps: *steps,
-                };
-                self.come_in(alloc, visitor, reads.as_slice())
-            }
-            Event::Exit { cpu, regs } => Ok(self.go_out(*cpu, regs)),
-        }
-    }
-
-    /// A processor comes in, which read this, and does its granted steps.
-    fn come_in(&mut self, alloc: Global, visitor: Visitor, reads: &[Read]) -> Result<bool, NoMemory>
-        requires { copied_bytes (done_by self.old ++ Entry visitor.cpu visitor.regs visitor.steps reads.now ∷ []) ≤ 2 ^ 28 }
-        ensures { Does self.old self.new (Entry visitor.cpu visitor.regs visitor.steps reads.now) result }
-    {
-        if !self.lay_for(&visitor, reads) {
-            return Ok(false);
-        }
-        self.enter(alloc, visitor, reads)
-    }
-
-    /// Whether this visitor can come in. Where it can, RAM has what it reads from then on, if that can be of one RAM.
-    pub fn lay_for(&mut self, visitor: &Visitor, reads: &[Read]) -> bool
-        ensures can { IsTrue result ↔ CanEnter self.old.at_work.core (coming_of visitor.now) }
-        ensures laid { IsTrue result → AreOfOneRam reads.now → HoldsReads self.new.lane reads.now }
-        ensures stays { self.new.at_work ≡ self.old.at_work }
-    {
-        if !self.at_work.may_enter(visitor) {
-            return false;
-        }
-        lay(&mut self.lane, reads);
-        true
-    }
-
-    /// A visitor that can come in does, over RAM that has what it reads, and does its granted steps; whether it has read that.
-    pub fn enter(
-        &mut self,
-        alloc: Global,
-        visitor: Visitor,
-        reads: &[Read],
-    ) -> Result<bool, NoMemory>
-        requires can { CanEnter self.old.at_work.core (coming_of visitor) }
-        requires laid { AreOfOneRam reads.now → HoldsReads self.old.lane reads.now }
-        requires few { copied_bytes (done_by self.old ++ Entry visitor.cpu visitor.regs visitor.steps reads.now ∷ []) ≤ 2 ^ 28 }
-        ensures does { Does self.old self.new (Entry visitor.cpu visitor.regs visitor.steps reads.now) result }
-        ensures came { result ≡ Ok true → HasComeIn self.old.at_work self.new.at_work visitor self.old.lane }
-    {
-        match self.at_work.enter(alloc, visitor, &self.lane) {
-            Ok(()) => {
-                let events = self.at_work.core.journal().as_slice();
-                Ok(last_has_read(events, reads))
-            }
-            Err(EnterRefusal::Full { .. }) => Ok(false),
-            Err(EnterRefusal::Memory) => Err(NoMemory),
-        }
-    }
-
-    /// A processor goes out with these registers.
-    fn go_out(&mut self, cpu: u8, regs: &Regs) -> bool
-        ensures { Does self.old self.new (Exit cpu regs.now) (Ok result) }
-    {
-        if !self.at_work.is_inside(cpu) {
-            return false;
-        }
-        let out = self.at_work.leave(cpu, &mut self.lane);
-        are_same_regs(out.regs, regs)
-    }
 }

@@ -14,8 +14,9 @@ use core_lock::CoreLock;
 use kernel_state::{Core, journals_stay_legal};
 use std::alloc::Global;
 
-/// Shares a core that keeps its events, and where nothing has happened: a pass for each of its processors, in the order of their numbers. Their list has
-/// room for as many, so they can be put back without memory. At `Err` there was no memory, and the core comes back.
+/// Shares a core that keeps its events, and where nothing has happened: a pass for each of its processors, in the order of their
+/// numbers. Their list has room for as many, so they can be put back without memory. At `Err` there was no memory, and the core
+/// comes back.
 pub fn share(alloc: Global, core: Core) -> Result<(SharedCore, Vec<CpuPass>), (Core, NoMemory)>
     requires fresh { events_of core ≡ [] }
     requires kept { terms_of core ≡ kept_terms }
