@@ -4,6 +4,7 @@ use Rattle.std.specs.Prelude.{IsSomeAnd, Result, Ok, Err, slice_get, slice_set}
 use Rattle.std.specs.Option.{option_map}
 use Rattle.core_at_work.specs.Insides.{IsInside, insides}
 use Rattle.core_at_work.specs.Working.{ComesIn, GoesOut, HasComeIn}
+use Rattle.core_at_work.specs.declared.core_at_work.CoreAtWork.{CoreAtWork}
 use Rattle.core_at_work.specs.declared.went_out.WentOut.{WentOut}
 use Rattle.core_at_work.proofs.Kept.{kernel_as_before}
 use Rattle.core_at_work.proofs.Stand.{has_kernel, inside_listed, kernel_has, listed_inside, listed_outside, outside_listed}
@@ -138,11 +139,11 @@ enters_so boot play old machine visitor lane (Err (Full copied more)) at sees la
 enters_so boot play old machine visitor lane (Err Memory) at sees lanes come = still_at boot play old machine at lanes come.0
 
 -- whether it has come in or not, the terms stay
-pub terms_so : (old machine : Machine) (visitor : Visitor) (lane : List ℕ) (result : Result (Unit {0}) EnterRefusal) →
-    ComesIn old.at_work machine.at_work visitor lane result → terms_of machine.at_work.core ≡ terms_of old.at_work.core
-terms_so old machine visitor lane (Ok done) come = come.entered.terms
-terms_so old machine visitor lane (Err (Full copied more)) come = come.0.terms
-terms_so old machine visitor lane (Err Memory) come = come.0.terms
+pub terms_so : (old new : CoreAtWork) (visitor : Visitor) (lane : List ℕ) (result : Result (Unit {0}) EnterRefusal) →
+    ComesIn old new visitor lane result → terms_of new.core ≡ terms_of old.core
+terms_so old new visitor lane (Ok done) come = come.entered.terms
+terms_so old new visitor lane (Err (Full copied more)) come = come.0.terms
+terms_so old new visitor lane (Err Memory) come = come.0.terms
 
 -- ---- an exit
 

@@ -1,4 +1,5 @@
 pub mod InRam
 pub mod OfPlay
+pub mod Recalled
 pub mod Served
 pub mod Told

@@ -13,7 +13,7 @@ ghost use Rattle.trace_text.specs.Sound.{IsSoundBoot, IsSoundFill};
 use crate::of_boot::OfBoot;
 use crate::serving::{serve, whole};
 use base::NoMemory;
-use core_at_work::{CoreAtWork, core_on};
+use core_at_work::CoreAtWork;
 use core_machine::first_lane;
 use kernel_state::{EnterRefusal, Terms};
 use native_tas::Natives;
@@ -77,8 +77,7 @@ impl<B: OfBoot> CorePort<B> {
     {
         let lane = first_lane(alloc, fills)?;
         whole(&lane);
-        let core = core_on(alloc, boot, natives, TERMS)?;
-        let at_work = CoreAtWork::new(alloc, core)?;
+        let at_work = CoreAtWork::booted_on(alloc, boot, natives, TERMS)?;
         Ok(CorePort {
             alloc,
             at_work,
@@ -94,9 +93,7 @@ impl<B: OfBoot> CorePort<B> {
         ensures boot { self.now.boot ≡ B.booted }
         ensures kernels { IsKernels self.now }
         ensures few { copied_bytes self.now.history ≤ 2 ^ 28 }
-    {
-        let _copied = self.at_work.core.copied();
-    }
+    {}
 }
 
 impl<B: OfBoot> SmcPort for CorePort<B> {

@@ -9,7 +9,8 @@ use Rattle.core_lock.specs.Counts.{numbers_from, times}
 use Rattle.core_lock.specs.Passes.{AreUnused, IsIn, number}
 use Rattle.kernel_model.specs.Application.{Booted, Native}
 use Rattle.kernel_model.specs.Turns.{cpu_of}
-use Rattle.kernel_state.specs.Meaning.{booted_of, events_of}
+use Rattle.kernel_state.specs.Meaning.{booted_of, events_of, terms_of}
+use Rattle.kernel_state.specs.Terms.{kept_terms}
 use Rattle.kernel_state.specs.declared.kernel_core.Core.{Core}
 use Rattle.normal_cpus.specs.Sharing.{AreAllCpusOf, AreCpusOf, CpuPass, IsCpuOf, boot_of}
 use Rattle.normal_cpus.specs.declared.shared_core.SharedCore.{SharedCore}
@@ -67,15 +68,16 @@ module _ (shared : SharedCore) (items : List Item) (passes : List CpuPass) (lane
         ∙ maps_same ends passes (same_length ∙ count) (λ i pass end below. (has_played i pass [] end below).same) ∙ numbers)
 
     pub all_played : (core : Core) → map number passes ≡ numbers_from 0 (boot_of shared).cpus
-        → list_any (λ (end : CpuEnd). lacks_memory end.outcome) ends ≡ false → booted_of core ≡ boot_of shared
+        → list_any (λ (end : CpuEnd). lacks_memory end.outcome) ends ≡ false → booted_of core ≡ boot_of shared → terms_of core ≡ kept_terms
         → All (IsIn cpu_of (events_of core)) (map (λ (end : CpuEnd). end.pass) ends)
         → AllPlayed shared lanes items passes ends core
-    all_played core numbers none boots are_in = record {
+    all_played core numbers none boots kept are_in = record {
       numbers = numbers;
       same_length = same_length ∙ count;
       each = has_played;
       none_lacked = none;
       boot = boots;
+      kept = kept;
       are_in = are_in;
     }
 

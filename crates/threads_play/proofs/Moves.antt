@@ -93,7 +93,7 @@ module _ (boot : Booted) (items : List Item) (lane : List ℕ) (acts : List Act)
           let cpu = number old.pass in
           let at = stays boot cpu items lane (ready_for (Comes steps regs ∷ acts) seat) (seen old.pass) has.0.begins.0
           (seen pass) has.0.begins.1 (others_seen boot old.pass pass own has.0) was.stands.part in
-          let much = subst (λ (l : List ℕ). IsTooMuchAfter boot (seen pass) (coming cpu given steps) l copied more)
+          let much = subst (λ (l : List ℕ). IsTooMuchAfter boot (2 ^ 28) (seen pass) (coming cpu given steps) l copied more)
           was.stands.sees has.1 in
           let not = refuses boot cpu items lane (seen pass) acts seat steps regs given copied more at given_to much in
           let here : IsRefused (role_of (share_of boot (seen pass) cpu) items lane) copied more (record old { pass = pass }) = record {

@@ -109,7 +109,7 @@ module _ (boot : Booted) (cpu : ℕ) (items : List Item) (lane : List ℕ) where
     pub refuses : (steps : ℕ) (regs : List Reg) (given : Regs) (copied more : ℕ)
         (was : ComesToSeat (role before) (ready_for (Comes steps regs ∷ rest) seat))
         → given.a ≡ map (number_in seat.answer) regs
-        → IsTooMuchAfter boot before (coming cpu given steps) seat.lane copied more
+        → IsTooMuchAfter boot (2 ^ 28) before (coming cpu given steps) seat.lane copied more
         → (refused : IsRefusedAt (role before) was.part (length before))
         × (copied ≡ copied_bytes before) × (more ≡ total_bytes refused.reads)
     refuses steps regs given copied more was given_is much =

@@ -1,15 +1,17 @@
 -- The works of all processors are those of the play in the order of the core's history.
 use Rattle.std.proofs.Common.{◌≡◌, ◌<◌, ℕ, zero, suc, Bool, true, false, List, [], ◌∷◌, length, map, get_or, Result, Ok, Err, arith, refl, ap, sym, subst, ◌∙◌}
-use Rattle.std.specs.Prelude.{◌||◌, replicate, slice_index_or, All}
+use Rattle.std.specs.Prelude.{◌≤◌, ◌||◌, replicate, slice_index_or, All}
 use Rattle.std.specs.List.{list_any}
 use Rattle.std.proofs.lemmas.List.{get_or-map, length-map}
 use Rattle.base.specs.Zeros.{zeros}
 use Rattle.core_lock.specs.Passes.{IsIn, number, seen}
+use Rattle.event_journal.specs.Journal.{copied_bytes}
 use Rattle.event_journal.specs.declared.event.Event.{Event}
 use Rattle.kernel_model.specs.Application.{Booted, Native, booted}
 use Rattle.kernel_model.specs.History.{IsLegal}
 use Rattle.kernel_model.specs.Turns.{cpu_of}
 use Rattle.kernel_state.specs.Meaning.{events_of}
+use Rattle.kernel_state.specs.declared.terms.Terms.{Terms}
 use Rattle.kernel_state.proofs.Told.{few_bytes, is_legal}
 use Rattle.kernel_state.specs.declared.enter_refusal.EnterRefusal.{EnterRefusal}
 use Rattle.kernel_state.specs.declared.enter_refusal.EnterRefusal.TheVariants.{Full, Memory}
@@ -128,7 +130,7 @@ module _ (shared : SharedCore) (lanes : List (List ℕ)) (items : List Item) (pa
 pub ends_are_played : EndsGather → EndsMerge → EndsArePlayed
 ends_are_played ends_gather ends_merge shared lanes items passes ends core natives boot trace all of =
     let history : List Event = events_of core in
-    let few = few_bytes core.parts core.replay in
+    let few = subst (λ (terms : Terms). copied_bytes history ≤ terms.most) all.kept (few_bytes core.parts core.replay) in
     let lawful = legal shared lanes items passes ends core natives boot trace all of in
     let ended = have shared lanes items passes ends core natives boot trace all of ends_gather in
     let merged = refusals_merge (setting_of natives boot trace) history

@@ -8,7 +8,8 @@ use Rattle.event_journal.specs.declared.event.Event.{Event}
 use Rattle.kernel_model.specs.Application.{Native, booted}
 use Rattle.kernel_model.specs.History.{IsLegal}
 use Rattle.kernel_model.specs.Turns.{cpu_of}
-use Rattle.kernel_state.specs.Meaning.{booted_of, events_of}
+use Rattle.kernel_state.specs.Meaning.{booted_of, events_of, terms_of}
+use Rattle.kernel_state.specs.Terms.{kept_terms}
 use Rattle.kernel_state.specs.declared.enter_refusal.EnterRefusal.TheVariants.{Memory}
 use Rattle.kernel_state.specs.declared.kernel_core.Core.{Core}
 use Rattle.normal_cpus.specs.Sharing.{CpuPass, IsCpuOf, boot_of}
@@ -60,7 +61,7 @@ EndsMerge = (natives : List Native) (boot : Boot) (trace : Trace) (history : Lis
 -- ---- once the core is had back
 
 -- of each pass of a core, by its number, and the RAM at its place the work has come back, none for want of memory, and the core is
--- had back with a history that all passes are in
+-- had back, its events kept, with a history that all passes are in
 pub record AllPlayed (shared : SharedCore) (lanes : List (List ℕ)) (items : List Item) (passes : List CpuPass) (ends : List CpuEnd)
     (core : Core) : Type 0 where
   pub numbers : map number passes ≡ numbers_from 0 (boot_of shared).cpus
@@ -69,6 +70,7 @@ pub record AllPlayed (shared : SharedCore) (lanes : List (List ℕ)) (items : Li
       → HasPlayed shared items (slice_index_or passes i pass, slice_index_or lanes i lane) (slice_index_or ends i end)
   pub none_lacked : list_any (λ (end : CpuEnd). lacks_memory end.outcome) ends ≡ false
   pub boot : booted_of core ≡ boot_of shared
+  pub kept : terms_of core ≡ kept_terms
   pub are_in : All (IsIn cpu_of (events_of core)) (map (λ (end : CpuEnd). end.pass) ends)
 
 -- then the trace was played, and its text is theirs

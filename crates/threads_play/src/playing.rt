@@ -2,7 +2,8 @@
 ghost use Rattle.std.specs.Prelude.{◌≡◌, List, [], IfOk, length};
 ghost use Rattle.kernel_model.specs.Application.{Native};
 ghost use Rattle.kernel_model.specs.History.{IsLegal};
-ghost use Rattle.kernel_state.specs.Meaning.{booted_of, events_of};
+ghost use Rattle.kernel_state.specs.Meaning.{booted_of, events_of, terms_of};
+ghost use Rattle.kernel_state.specs.Terms.{kept_terms};
 ghost use Rattle.ta_isa.specs.declared.boot.Boot.{Boot};
 ghost use Rattle.trace_text.specs.declared.trace.Trace.{Trace};
 ghost use Rattle.threads_play.specs.Played.{IsOfTrace, TakeTurns, WasPlayed};
@@ -33,7 +34,7 @@ pub struct ThreadsPlay {
     pub refused: bool,
 }
 
-/// Plays the items of a trace on a core where nothing has happened, each processor in a thread of its own, over these lanes, one
+/// Plays the items of a trace on a core that keeps its events, and where nothing has happened, each processor in a thread of its own, over these lanes, one
 /// for each processor by its number, and joins them all. Work for which no thread can be started is done by the caller.
 ///
 /// The pace is called by each processor between the entry and the exit of each of its calls, under no turn.
@@ -48,6 +49,7 @@ pub fn play_on_threads<R: Threads + Wait + Sync, G: Pace + Sync>(
     pace: &G,
 ) -> Result<ThreadsPlay, NoMemory>
     requires fresh { events_of core ≡ [] }
+    requires kept { terms_of core ≡ kept_terms }
     requires lanes { length lanes.items ≡ (booted_of core).cpus }
     requires turns { TakeTurns items.now }
     ensures boot { IfOk result (λ play. booted_of play.core ≡ booted_of core) }

@@ -52,7 +52,7 @@ returns-clause-played g c =
     c.in_ok-text.text.items c.some_refused-refused.result
     (all_played shared c.args.items.now passes c.args.lanes.items c.in_ok-jobs.jobs.items
     c.in_ok-jobs.ensures.len c.in_ok-jobs.ensures.each ends c.in_ok-ends.ensures.len c.in_ok-ends.ensures.each
-    core numbers none c.close-core.ensures.boot are_in)
+    core numbers none c.close-core.ensures.boot c.close-core.ensures.kept are_in)
     c.in-Ok.ensures.boot
     (c.in_ok-text.ensures ∙ ap (λ (es : List CpuEnd). flat_map (λ block. block) (texts_of es)) c.as_slice-2.ensures.value)
     (c.some_refused-refused.ensures

@@ -34,4 +34,5 @@ returns-clause-enters c boot play at =
     enters_so boot play old _ c.args.visitor c.index.result.now c.enter.result at (sym sees) refl c.enter.ensures
 
 pub returns-clause-terms : goal.returns-clause-terms
-returns-clause-terms c = terms_so c.args.self.now _ c.args.visitor c.index.result.now c.enter.result c.enter.ensures
+returns-clause-terms c =
+    terms_so c.args.self.now.at_work c.enter.new.self c.args.visitor c.index.result.now c.enter.result c.enter.ensures
