@@ -238,7 +238,6 @@ pub served_all : (old now : Machine) (before answers : List Told) (smcs : List S
 served_all old now before answers smcs count so whole = record {
   told = so.told;
   added = so.added;
-  terms = so.extends.terms;
   at = λ boot play at. subst (λ (done : List Smc). HasCome boot play done now so.told) whole (so.at boot play at);
 }
 
@@ -256,7 +255,6 @@ pub served_part : (old now new : Machine) (before answers after : List Told) (sm
 served_part old now new before answers after smcs count smc why so is few one = record {
   told = so.told ++ one.told;
   added = one.added ∙ ap (λ (told : List Told). told ++ one.told) so.added ∙ append_assoc before so.told one.told;
-  terms = one.terms ∙ so.extends.terms;
   at = λ boot play at.
       let have = so.at boot play at in
       let not = one.at boot have.next have.at in
