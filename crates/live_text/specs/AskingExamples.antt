@@ -1,5 +1,5 @@
 -- Lines that ask, and what they ask; and the first rule that others break.
-use Rattle.std.specs.Prelude.{◌≡◌, ℕ, List, ◌∷◌, [], codes, ◌++◌, true, None, Ok, Err}
+use Rattle.std.specs.Prelude.{◌≡◌, ℕ, List, ◌∷◌, [], codes, ◌++◌, true, false, None, Ok, Err}
 use Rattle.live_text.specs.Asking.{IsAsked, kind_of_line}
 use Rattle.live_text.specs.Examples.{booted, booted_without_history}
 use Rattle.live_text.specs.Rules.{no_lines}

@@ -1,15 +1,13 @@
 -- What a line of a conversation says that asks nothing, and what it adds to the lines that count.
-use Rattle.std.specs.Prelude.{◌≡◌, List, Bool, true, false, None, Some, Result, Ok, Err}
+use Rattle.std.specs.Prelude.{◌≡◌, List, Bool, false, Result}
 use Rattle.live_text.specs.Rules.{LiveFront, with_told, without_history}
 use Rattle.live_text.specs.Scene.{LiveScene}
 use Rattle.live_text.specs.declared.line.LiveLine.{LiveLine}
 use Rattle.live_text.specs.declared.line.LiveLine.TheVariants.{HistoryOff, Says}
 use Rattle.notify_text.specs.Statement as told
-use Rattle.trace_text.specs.Limits.{first_broken}
 use Rattle.trace_text.specs.Statement as trace
 use Rattle.trace_text.specs.declared.fault.BadKind.{BadKind}
 use Rattle.trace_text.specs.declared.fault.LineFault.{LineFault}
-use Rattle.trace_text.specs.declared.fault.LineFault.TheVariants.{Broken, NoRoom}
 use Rattle.trace_text.specs.declared.statement.Statement.{Statement}
 use Rattle.trace_text.specs.declared.statement.Statement.TheVariants as says
 
@@ -35,9 +33,7 @@ with_line before HistoryOff = without_history before
 -- a line was judged by these rules, behind the lines before: it keeps all of them, and says what leads to the lines after; or
 -- this is the first one that it breaks; or memory ran out
 abbrev pub IsJudged : Result LiveLine LineFault → List (BadKind × Bool) → LiveFront → LiveFront → Type 0
-IsJudged (Ok line) rules before after = (first_broken rules ≡ None) × (with_line before line ≡ after)
-IsJudged (Err (Broken kind)) rules before after = first_broken rules ≡ Some kind
-IsJudged (Err NoRoom) rules before after = Unit {0}
+IsJudged judged rules before after = trace.IsJudgedBy with_line judged rules before after
 
 -- it may stand here: what it says in its place, and `history off` before the boot
 abbrev pub IsInPlace : LiveScene → LiveLine → Type 0

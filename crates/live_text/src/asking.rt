@@ -1,7 +1,7 @@
 //! Judging a line that asks.
 
-ghost use Rattle.std.specs.Prelude.{◌≡◌, ◌≢◌, ◌<◌, ◌∷◌, ◌↔◌, [], IfErr, IfSome, IsNone, None, false, nat_lt};
-ghost use Rattle.live_text.specs.Asking.{IsAsked, kind_of_line, question_of, rules_of};
+ghost use Rattle.std.specs.Prelude.{◌≡◌, ◌≢◌, ◌<◌, ◌∷◌, ◌↔◌, [], IfErr, IfSome, IsNone, None, nat_lt, not};
+ghost use Rattle.live_text.specs.Asking.{IsAsked, is_switch, kind_of_line, question_of, rules_of};
 ghost use Rattle.live_text.specs.declared.question.QuestionKind.TheVariants as word_of;
 ghost use Rattle.text_lines.specs.Words.{words_of};
 ghost use Rattle.trace_text.specs.Forms.{decimal, is_decimal};
@@ -9,7 +9,7 @@ ghost use Rattle.trace_text.specs.Judging.{IsSaid, Judged};
 ghost use Rattle.trace_text.specs.Rules.{counts, word};
 
 use crate::question::{Question, QuestionKind};
-use crate::reading::first_word;
+use crate::scene::Scene;
 use text_lines::Words;
 use trace_text::limits::is_within;
 use trace_text::word::address;
@@ -18,14 +18,22 @@ use trace_text::{BadKind, LineFault, has_words, is_text, number};
 /// The second word of a line that begins to watch.
 const ON: &[u8] = b"on";
 
-/// The second word of a line that watches no longer.
-const OFF: &[u8] = b"off";
+/// The second word of a line that watches no longer, or that turns history off.
+pub(crate) const OFF: &[u8] = b"off";
 
 /// The most events that are told at once.
 pub const MOST_EVENTS: u32 = 1024;
 
+/// The first word of a line.
+pub(crate) fn first_word(line: &[u8]) -> &[u8]
+    ensures { result.now ≡ word (words_of line.now) 0 }
+{
+    let mut words = Words::of(line);
+    words.word()
+}
+
 /// The second word of a line, which is empty where there is none.
-fn second_word(line: &[u8]) -> &[u8]
+pub(crate) fn second_word(line: &[u8]) -> &[u8]
     ensures { result.now ≡ word (words_of line.now) 1 }
 {
     let mut words = Words::of(line);
@@ -78,9 +86,20 @@ fn has_boot(is_booted: bool) -> Result<(), LineFault>
     Ok(())
 }
 
+/// That history is kept.
+fn has_history(is_off: bool) -> Result<(), LineFault>
+    ensures { IsSaid result BadKind.Place (not is_off) tt }
+{
+    if is_off {
+        return Err(LineFault::Broken(BadKind::Place));
+    }
+    Ok(())
+}
+
 /// What a line `watch` asks.
 fn read_watch(line: &[u8]) -> Result<Question, LineFault>
-    ensures judged { Judged (λ asked. asked) result (rules_of word_of.Watch false (words_of line.now))
+    ensures judged { Judged (λ asked. asked) result
+        ((BadKind.Item, is_switch (word (words_of line.now) 1)) ∷ (BadKind.Count, counts 1 (words_of line.now)) ∷ [])
         (question_of word_of.Watch (words_of line.now)) }
     ensures room { IfErr result (λ fault. fault ≢ LineFault.NoRoom) }
 {
@@ -94,13 +113,14 @@ fn read_watch(line: &[u8]) -> Result<Question, LineFault>
 }
 
 /// What a line `events` asks.
-fn read_events(is_booted: bool, line: &[u8]) -> Result<Question, LineFault>
-    ensures judged { Judged (λ asked. asked) result (rules_of word_of.Events is_booted (words_of line.now))
+fn read_events(scene: &Scene, line: &[u8]) -> Result<Question, LineFault>
+    ensures judged { Judged (λ asked. asked) result (rules_of word_of.Events scene.now (words_of line.now))
         (question_of word_of.Events (words_of line.now)) }
     ensures room { IfErr result (λ fault. fault ≢ LineFault.NoRoom) }
 {
     has_count(line, 2)?;
-    has_boot(is_booted)?;
+    has_boot(scene.is_booted())?;
+    has_history(scene.is_history_off())?;
     let from = number(second_word(line))?;
     let count = number(third_word(line))?;
     if from == u32::MAX {
@@ -113,8 +133,8 @@ fn read_events(is_booted: bool, line: &[u8]) -> Result<Question, LineFault>
 }
 
 /// What a line of this kind asks.
-fn read_kind(kind: QuestionKind, is_booted: bool, line: &[u8]) -> Result<Question, LineFault>
-    ensures judged { Judged (λ asked. asked) result (rules_of kind is_booted (words_of line.now))
+fn read_kind(kind: QuestionKind, scene: &Scene, line: &[u8]) -> Result<Question, LineFault>
+    ensures judged { Judged (λ asked. asked) result (rules_of kind scene.now (words_of line.now))
         (question_of kind (words_of line.now)) }
     ensures room { IfErr result (λ fault. fault ≢ LineFault.NoRoom) }
 {
@@ -122,34 +142,34 @@ fn read_kind(kind: QuestionKind, is_booted: bool, line: &[u8]) -> Result<Questio
         QuestionKind::Watch => read_watch(line),
         QuestionKind::State => {
             has_count(line, 0)?;
-            has_boot(is_booted)?;
+            has_boot(scene.is_booted())?;
             Ok(Question::State)
         }
         QuestionKind::Session => {
             has_count(line, 1)?;
-            has_boot(is_booted)?;
+            has_boot(scene.is_booted())?;
             Ok(Question::Session(place_in(second_word(line))?))
         }
         QuestionKind::Buffer => {
             has_count(line, 1)?;
-            has_boot(is_booted)?;
+            has_boot(scene.is_booted())?;
             Ok(Question::Buffer(address(second_word(line))?))
         }
-        QuestionKind::Events => read_events(is_booted, line),
+        QuestionKind::Events => read_events(scene, line),
     }
 }
 
-/// Judges a line that asks, which is given without its line feed, and says whether a boot stands before it: what it asks, or
+/// Judges a line that asks, which is given without its line feed, behind the lines that the scene stands for: what it asks, or
 /// the first rule that it breaks, in the order of [`BadKind`]. `None` where its first word is not that of a question. Takes no
 /// memory.
-pub fn read_question(is_booted: bool, line: &[u8]) -> Option<Result<Question, LineFault>>
+pub fn read_question(scene: &Scene, line: &[u8]) -> Option<Result<Question, LineFault>>
     ensures other { IsNone result ↔ (kind_of_line line.now ≡ None) }
-    ensures asked { IfSome result (IsAsked is_booted line.now) }
+    ensures asked { IfSome result (IsAsked scene.now line.now) }
     ensures room { IfSome result (λ judged. IfErr judged (λ fault. fault ≢ LineFault.NoRoom)) }
 {
     let kind = QuestionKind::named(first_word(line))?;
     if !is_text(line) {
         return Some(Err(LineFault::Broken(BadKind::Byte)));
     }
-    Some(read_kind(kind, is_booted, line))
+    Some(read_kind(kind, scene, line))
 }

@@ -1,30 +1,31 @@
 //! Judging a line that asks nothing.
 
-ghost use Rattle.std.specs.Prelude.{IfOk, true};
-ghost use Rattle.live_text.specs.Rules.{LiveFront, after_line, history_rules, is_history, line_rules, without_history};
+ghost use Rattle.std.specs.Prelude.{◌≡◌, IfOk, true};
+ghost use Rattle.live_text.specs.Judging.{history_line};
+ghost use Rattle.live_text.specs.Rules.{LiveFront, after_line, line_rules};
 ghost use Rattle.live_text.specs.Scene.{HasItsBoot, IsSceneOf};
 ghost use Rattle.live_text.specs.Statement.{HasFewCpus, IsInPlace, IsJudged};
+ghost use Rattle.live_text.specs.declared.line.LiveLine.TheVariants.{HistoryOff};
 ghost use Rattle.text_lines.specs.Words.{words_of};
+ghost use Rattle.trace_text.specs.Judging.{Judged};
 
+use crate::asking::{OFF, first_word, second_word};
 use crate::line::LiveLine;
 use crate::scene::Scene;
 use notify_text::judge_line;
 use std::alloc::Global;
-use text_lines::Words;
 use trace_text::{BadKind, LineFault, has_words};
 use uuid::Uuid;
 
 /// The first word of the line that turns history off.
 const HISTORY: &[u8] = b"history";
 
-/// Its second word.
-const OFF: &[u8] = b"off";
-
 impl Scene {
-    /// What a line says that begins no line of a trace with signals: `history off`, or nothing.
-    fn read_history(&self, line: &[u8]) -> Result<LiveLine, LineFault> {
-        let mut words = Words::of(line);
-        if words.word() != HISTORY || words.next_word() != Some(OFF) {
+    /// What a line says that begins none of a trace with signals: `history off`, or nothing.
+    fn read_history(&self, line: &[u8]) -> Result<LiveLine, LineFault>
+        ensures { Judged (λ l. l) result (history_line self.now (words_of line.now)) HistoryOff }
+    {
+        if first_word(line) != HISTORY || second_word(line) != OFF {
             return Err(LineFault::Broken(BadKind::Item));
         }
         if !has_words(line, 1) {
@@ -33,7 +34,7 @@ impl Scene {
         if self.is_booted() {
             return Err(LineFault::Broken(BadKind::Place));
         }
-        if self.forgets {
+        if self.is_history_off() {
             return Err(LineFault::Broken(BadKind::Repeat));
         }
         Ok(LiveLine::HistoryOff)
@@ -56,9 +57,14 @@ pub fn read_line(
     ensures in_place { IfOk result (IsInPlace scene.now) }
     ensures few { IfOk result HasFewCpus }
 {
-    match judge_line(alloc, natives, &scene.lines, line) {
+    match judge_line(alloc, natives, scene.lines(), false, line) {
         Ok(said) => Ok(LiveLine::Says(said)),
-        Err(LineFault::Broken(BadKind::Item)) => scene.read_history(line),
-        Err(fault) => Err(fault),
+        Err(fault) => {
+            if fault.is_unknown() {
+                scene.read_history(line)
+            } else {
+                Err(fault)
+            }
+        }
     }
 }

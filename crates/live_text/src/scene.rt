@@ -13,9 +13,9 @@ use trace_text::Statement;
 #[derive(Drop)]
 pub struct Scene {
     /// Of the trace with signals.
-    pub(crate) lines: trace_text::Scene,
+    lines: trace_text::Scene,
     /// History is off.
-    pub(crate) forgets: bool,
+    forgets: bool,
 }
 
 impl Model for Scene {
@@ -28,6 +28,7 @@ impl Model for Scene {
 
 impl Scene {
     /// Before the first line. Takes no memory.
+    #[tactic(auto, unfolding(trace_text::specs::Limits::inside_after))]
     pub fn new(alloc: Global) -> Scene
         ensures { IsSceneOf result no_lines }
     {
@@ -35,6 +36,13 @@ impl Scene {
             lines: trace_text::Scene::new(alloc),
             forgets: false,
         }
+    }
+
+    /// Of the trace with signals.
+    pub(crate) fn lines(&self) -> &trace_text::Scene
+        ensures { result.now ≡ self.now.lines }
+    {
+        &self.lines
     }
 
     /// Whether a boot is among the lines.

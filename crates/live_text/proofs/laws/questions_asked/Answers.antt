@@ -1,11 +1,15 @@
 use Rattle.std.proofs.Common.{refl}
 use Rattle.live_text.specs.Asking.{kind_asked}
+use Rattle.live_text.specs.Rules.{after_line}
+use Rattle.notify_text.specs.Rules.{after_line as after_told_line}
+use Rattle.text_lines.specs.Lines.{is_skipped}
 use Rattle.trace_text.specs.Forms.{decimal, hexadecimal, is_decimal, is_hexadecimal}
-use Rattle.trace_text.specs.Rules.{counts}
+use Rattle.trace_text.specs.Rules.{added, counts, kind_named}
+use Rattle.trace_text.specs.Rules.{after_line as after_trace_line}
 use Rattle.live_text.proofs.laws.questions_asked.Goals as goal
 
 pub returns : goal.returns
-unfolding kind_asked decimal hexadecimal is_decimal is_hexadecimal counts
+unfolding kind_asked decimal hexadecimal is_decimal is_hexadecimal counts after_line after_told_line after_trace_line added is_skipped kind_named
 returns c = record {
   on = (refl, refl);
   off = (refl, refl);
@@ -23,6 +27,10 @@ returns c = record {
   no_digit = refl;
   no_events = refl;
   many_events = refl;
+  not_kept = refl;
+  not_kept_first = refl;
+  count_first = refl;
+  others_stay = (refl, refl);
   byte_first = refl;
   comment = refl;
   empty = refl;
