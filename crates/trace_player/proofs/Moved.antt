@@ -218,6 +218,7 @@ at-lines boot at line player stands = record {
     booted = stands.machine.booted;
     history = stands.machine.history;
     kernel = stands.machine.kernel;
+    limit = stands.machine.limit;
     lanes = stands.machine.lanes;
     goes_on = stands.machine.goes_on;
   };

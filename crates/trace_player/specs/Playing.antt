@@ -10,7 +10,8 @@ use Rattle.trace_text.specs.declared.item.Item.{Item}
 use Rattle.trace_text.specs.declared.item.Item.TheVariants as item
 use Rattle.trace_text.specs.declared.item.Reg.{Reg}
 use Rattle.trace_text.specs.Sound.{IsPartOfRam, IsSoundReg}
-use Rattle.kernel_state.specs.Meaning.{booted_of, events_of}
+use Rattle.kernel_state.specs.Meaning.{booted_of, events_of, terms_of}
+use Rattle.kernel_state.specs.declared.terms.Terms.{Terms}
 use Rattle.core_machine.specs.Standing.{CanCome}
 use Rattle.core_machine.specs.declared.machine.Machine.{Machine}
 use Rattle.core_machine.specs.declared.smc.Smc.TheVariants.{Comes, Leaves}
@@ -23,6 +24,10 @@ use Rattle.word_parts.specs.declared.stop.Stop.TheVariants.{Full, Failed, Memory
 -- all entries and exits of the player's core
 abbrev pub history_of : Player → List Event
 history_of player = events_of player.machine.at_work.core
+
+-- what becomes of them, and how much its entries may read
+abbrev pub terms_in : Player → Terms
+terms_in player = terms_of player.machine.at_work.core
 
 -- the player has come to this play of a trace, but for what was printed
 abbrev pub IsPlayedTo : Booted → Play → Player → Type 0

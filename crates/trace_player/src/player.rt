@@ -1,30 +1,24 @@
 //! A core with its processors, and what each of them was last told.
-ghost use Rattle.std.specs.Prelude.{◌≡◌, ◌<◌, ◌++◌, [], ◌∷◌, All, Err, IfErr, IfOk, IfSome, OnOk, Some, length, slice_get};
-ghost use Rattle.base.specs.Zeros.{zeros};
+ghost use Rattle.std.specs.Prelude.{◌≡◌, ◌<◌, ◌++◌, [], ◌∷◌, Err, IfErr, IfOk, IfSome, IsTrue, OnOk, Some, length, slice_get};
 ghost use Rattle.core_at_work.specs.Panics.{panic_of};
-ghost use Rattle.kernel_model.specs.Application.{Booted, IsBooted, booted};
+ghost use Rattle.kernel_model.specs.Application.{Booted};
 ghost use Rattle.kernel_state.specs.Meaning.{booted_of};
-ghost use Rattle.native_tas.specs.Table.{entries};
 ghost use Rattle.ns_ram.specs.Lane.{IsInRam, bytes_at};
 ghost use Rattle.play_model.specs.Line.{mem_line, ret_line};
-ghost use Rattle.play_model.specs.Play.{Play, after_item, first_play, lane_of, last_answer, with_writes};
-ghost use Rattle.trace_text.specs.Sound.{IsPartOfRam, IsSoundBoot, IsSoundFill};
+ghost use Rattle.play_model.specs.Play.{Play, after_item, lane_of, last_answer, with_writes};
+ghost use Rattle.trace_text.specs.Sound.{IsPartOfRam};
 ghost use Rattle.trace_player.specs.Items.{Begins, ComesIn, GoesOut};
-ghost use Rattle.trace_player.specs.Playing.{CanBeTold, CanComeIn, CanGoOut, CanTake, Follows, HasLane, IsPlayedTo, StaysAt, history_of};
+ghost use Rattle.trace_player.specs.Playing.{CanBeTold, CanComeIn, CanGoOut, CanTake, Follows, HasLane, IsPlayedTo, StaysAt, history_of, terms_in};
 ghost use Rattle.trace_player.specs.Position.{AreTold, Position, StandsAt, told_too, visit_at};
-ghost use Rattle.trace_player.specs.Starting.{uuids_of};
 
 use crate::exit::Exit;
 use answer_lines::{push_mem, push_ret, registers};
-use base::NoMemory;
 use core_machine::{Machine, Told, machines_stand, turns_are_taken};
-use event_journal::{Event, Journal};
+use event_journal::Journal;
 use kernel_entry::Visitor;
-use native_tas::Natives;
 use smc_abi::Regs;
 use std::alloc::Global;
-use ta_isa::Boot;
-use trace_text::{Fill, Item, Reg};
+use trace_text::{Item, Reg};
 use word_parts::Stop;
 
 /// The most processors that there are.
@@ -38,25 +32,8 @@ pub struct Player {
 }
 
 impl Player {
-    /// Boots a core and fills the RAM of each processor: before the first item of a trace. Want of memory is all that stops it.
-    pub fn booted(
-        alloc: Global,
-        boot: Boot,
-        natives: &Natives,
-        fills: &[Fill],
-    ) -> Result<Player, NoMemory>
-        requires boot { IsSoundBoot (uuids_of (entries natives.now)) boot }
-        requires fills { All IsSoundFill fills.now }
-        ensures stands { IfOk result (λ player.
-            IsPlayedTo (booted boot (entries natives.now))
-            (first_play (zeros 0x400000) (booted boot (entries natives.now)) fills.now) player) }
-        ensures boots { IfOk result (λ player. IsBooted (booted boot (entries natives.now))) }
-    {
-        Ok(Player::new(Machine::booted(alloc, boot, natives, fills)?))
-    }
-
     /// Nobody was told anything yet.
-    fn new(machine: Machine) -> Player
+    pub(crate) fn new(machine: Machine) -> Player
         ensures machine { result.machine ≡ machine }
         ensures answers { AreTold 8 (last_answer []) result.answers }
     {
@@ -73,15 +50,9 @@ impl Player {
         &self.machine
     }
 
-    /// All entries and exits so far.
-    pub fn history(&self) -> &[Event]
-        ensures { result.now ≡ history_of self.now }
-    {
-        self.machine.core().journal().as_slice()
-    }
-
-    /// The journal of the core: all entries and exits so far.
+    /// The journal of a core that keeps its events: all entries and exits so far.
     pub fn journal(&self) -> &Journal
+        requires { IsTrue (terms_in self.now).keeps }
         ensures { result.now.events ≡ history_of self.now }
     {
         self.machine.core().journal()
@@ -102,6 +73,7 @@ impl Player {
             → ComesIn boot at (visit_at at cpu steps regs.now) result self.new }
         ensures inside { OnOk result (CanGoOut self.new.machine cpu) }
         ensures never_fails { result ≡ Err Stop.Failed → ⊥ }
+        ensures terms { terms_in self.new ≡ terms_in self.old }
     {
         machines_stand();
         turns_are_taken();
@@ -117,6 +89,7 @@ impl Player {
         ensures panic { (boot : Booted) (at : Position) → StandsAt boot at self.old → result.panic ≡ panic_of at.play.kernel cpu }
         ensures told { CanBeTold self.new.machine cpu }
         ensures cpu { result.answer.cpu ≡ cpu }
+        ensures terms { terms_in self.new ≡ terms_in self.old }
     {
         machines_stand();
         let out = self.machine.leave(cpu);
@@ -137,6 +110,7 @@ impl Player {
             → StandsAt boot (told_too cpu regs.a at) self.new }
         ensures line { OnOk result (lines.new.items ≡ lines.old.items ++ ret_line cpu regs.a) }
         ensures memory { IfErr result (λ stop. stop ≡ Stop.Memory) }
+        ensures terms { terms_in self.new ≡ terms_in self.old }
     {
         self.answers[usize::from(cpu)] = regs;
         push_ret(lines, cpu, &regs)?;
@@ -150,6 +124,7 @@ impl Player {
         ensures writes { (boot : Booted) (at : Position) → StandsAt boot at self.old → StandsAt boot
             (record at { play = with_writes cpu (record { addr = addr; bytes = bytes.now } ∷ []) at.play }) self.new }
         ensures boot { booted_of self.new.machine.at_work.core ≡ booted_of self.old.machine.at_work.core }
+        ensures terms { terms_in self.new ≡ terms_in self.old }
     {
         machines_stand();
         self.machine.write(cpu, addr, bytes);
@@ -189,6 +164,7 @@ impl Player {
             → Begins boot at item.now result self.new lines.old.items lines.new.items }
         ensures told { IfOk result (λ out. IfSome out (λ exit. CanBeTold self.new.machine exit.answer.cpu)) }
         ensures never_fails { result ≡ Err Stop.Failed → ⊥ }
+        ensures terms { terms_in self.new ≡ terms_in self.old }
     {
         match item {
             Item::Smc { cpu, steps, regs } => {
@@ -220,6 +196,7 @@ impl Player {
             → Follows boot play (after_item boot item.now play) result self.new lines.old.items lines.new.items }
         ensures refused { result ≡ Err Stop.Full → StaysAt self.old self.new }
         ensures never_fails { result ≡ Err Stop.Failed → ⊥ }
+        ensures terms { terms_in self.new ≡ terms_in self.old }
     {
         match self.begin_item(alloc, item, lines)? {
             Some(exit) => self.tell(exit.answer.cpu, exit.answer.regs, lines),
