@@ -1,6 +1,6 @@
 -- What is told and written of an exit makes the play's exit of the kernel's.
 use Rattle.std.proofs.Common.{◌≡◌, ℕ, ◌<◌, Bool, false, true, List, [], ◌∷◌, ◌++◌, length, Option, Some, refl, sym, ap, subst, ◌∙◌}
-use Rattle.std.specs.Prelude.{◌==◌, if◌then◌else◌, OnOk, Result, Ok, Err, IfErr, slice_get, slice_index_or, slice_set}
+use Rattle.std.specs.Prelude.{◌==◌, if◌then◌else◌, OnOk, Result, Ok, Err, IfErr, slice_index_or, slice_set}
 use Rattle.std.specs.Option.{option_and_then, option_map}
 use Rattle.std.proofs.lemmas.List.{append-nil, append_cancel_left, get_or-set_other, get_or-set_same, length-set}
 use Rattle.std.proofs.lemmas.Bool.Decides.{Decides-eqb}
@@ -13,6 +13,7 @@ use Rattle.desk_answers.specs.declared.duty.Duty.{Duty}
 use Rattle.desk_answers.specs.declared.duty.Duty.TheVariants as duty
 use Rattle.event_journal.specs.declared.event.Event.{Event}
 use Rattle.event_journal.specs.declared.event.Event.TheVariants.{Exit}
+use Rattle.event_log.specs.LastEntry as log
 use Rattle.kernel_model.proofs.Parts.{option_map_some}
 use Rattle.kernel_model.specs.Application.{Booted}
 use Rattle.kernel_model.specs.Argument.{reg}
@@ -39,10 +40,10 @@ use Rattle.trace_player.specs.Position.{Position, StandsAt, told_too}
 use Rattle.trace_player.specs.declared.player.Player.{Player}
 use Rattle.word_parts.specs.declared.stop.Stop.{Stop}
 use Rattle.word_parts.specs.declared.stop.Stop.TheVariants.{Full, Failed, Memory}
-use Rattle.notify_player.specs.Asking.{IsToldAlike, came_at}
-use Rattle.notify_player.specs.Playing.{AreLastEntries, Follows, HasGone, position_in}
+use Rattle.notify_player.specs.Asking.{IsToldAlike, came_by}
+use Rattle.notify_player.specs.Playing.{Follows, HasGone, position_in}
 use Rattle.notify_player.specs.declared.player.NotifyPlayer.{NotifyPlayer}
-use Rattle.notify_player.proofs.Entries.{at-exit, entries-out, kept-entry}
+use Rattle.notify_player.proofs.Entries.{before-exit}
 use Rattle.notify_player.proofs.Wrote.{lanes-twice}
 
 -- ---- the kernel's exit
@@ -74,20 +75,20 @@ went boot at answered player goes =
     let same : out.exited.regs ≡ answered.regs.a = cc in
     record { out = out; regs = same }
 
--- at the place that is kept of its processor stands the last entry before
-pub entry-before : (boot : Booted) (drivers : Drivers) (told : NotifyPlay) (answered : Told) (player : NotifyPlayer) (place : ℕ)
-    (history : List Event) → answered.cpu < 8 → HasGone boot drivers told answered player
-    → history ≡ events_of player.player.machine.at_work.core → slice_get player.entries answered.cpu ≡ Some place
-    → came_at history place answered.cpu ≡ last_entry told.play.history answered.cpu
-entry-before boot drivers told answered player place history few gone is there =
+-- the last entry that the core tells of it is the last before its exit
+pub entry-before : (boot : Booted) (drivers : Drivers) (told : NotifyPlay) (answered : Told) (player : NotifyPlayer)
+    (entry : Option Event) → HasGone boot drivers told answered player
+    → entry ≡ log.last_entry answered.cpu (events_of player.player.machine.at_work.core)
+    → came_by entry ≡ last_entry told.play.history answered.cpu
+entry-before boot drivers told answered player entry gone is =
     let cpu = answered.cpu in
     let w = went boot (position_in told) answered player.player gone.goes in
     let out : Regs = record { a = w.out.exited.regs } in
     let made = event_made boot (Exit cpu out) told.play w.out.gone w.out.came in
-    ap (λ (h : List Event). came_at h place cpu)
-    (is ∙ gone.goes.stands.machine.history ∙ ap (λ (p : Play). p.history) (sym w.out.is) ∙ made.0)
-    ∙ at-exit told.play.history cpu out place cpu
-    ∙ kept-entry told.play.history player.entries cpu place there (gone.entries cpu few)
+    ap came_by is
+    ∙ ap (λ (h : List Event). came_by (log.last_entry cpu h))
+    (gone.goes.stands.machine.history ∙ ap (λ (p : Play). p.history) (sym w.out.is) ∙ made.0)
+    ∙ before-exit told.play.history cpu out cpu
 
 -- ---- what the desk makes of it
 
@@ -114,6 +115,7 @@ told-at boot cpu gone line other first second machine within at = record {
   booted = at.booted;
   history = at.history;
   kernel = at.kernel;
+  limit = at.limit;
   lanes = at.lanes ∙ lanes-twice gone.lanes cpu first second within;
   goes_on = at.goes_on;
 }
@@ -143,7 +145,6 @@ pub record HasTold (boot : Booted) (drivers : Drivers) (told : NotifyPlay) (answ
       (told_too answered.cpu regs.a (record (position_in told) { play = with_writes answered.cpu (writes_of result) next }))
       after.player
   pub desk : after.desk ≡ after_duty before.desk asked
-  pub entries : after.entries ≡ before.entries
 
 module _ (boot : Booted) (drivers : Drivers) (told : NotifyPlay) (answered : Told) (before after : NotifyPlayer)
     (goes : HasGone boot drivers told answered before) (lanes : length goes.goes.next.lanes ≡ boot.cpus)
@@ -216,14 +217,6 @@ module _ (boot : Booted) (drivers : Drivers) (told : NotifyPlay) (answered : Tol
         answers = t.at.answers;
       })
 
-  entries_stay : AreLastEntries next.play.history after.entries
-  entries_stay =
-      let told_so : Regs = record { a = exited.regs } in
-      let made = event_made boot (Exit cpu told_so) told.play w.out.gone w.out.came in
-      subst (AreLastEntries next.play.history) (sym t.entries)
-      (subst (λ (h : List Event). AreLastEntries h before.entries) (sym made.0)
-      (entries-out told.play.history before.entries cpu told_so goes.entries))
-
   desk_next : after.desk ≡ desk_of drivers next
   desk_next =
       t.desk
@@ -249,7 +242,6 @@ module _ (boot : Booted) (drivers : Drivers) (told : NotifyPlay) (answered : Tol
     record {
       at = at_next;
       count = length-set told.answers cpu wanted ∙ goes.count;
-      entries = entries_stay;
       desk = desk_next;
     },
     prints old new put,

@@ -1,17 +1,16 @@
 -- What an exit asks, by an entry of its processor in a legal history.
-use Rattle.std.proofs.Common.{ℕ, zero, suc, Bool, true, false, List, [], ◌∷◌, refl, subst}
+use Rattle.std.proofs.Common.{ℕ, Bool, true, false, List, [], ◌∷◌, Option, Some, None, refl, subst, sym}
 use Rattle.std.specs.Prelude.{◌==◌, if◌then◌else◌, IsTrue}
 use Rattle.std.specs.List.{AllByRecursion}
 use Rattle.desk_answers.specs.Duties.{HasHeadFirst}
 use Rattle.event_journal.specs.declared.event.Event.{Event}
 use Rattle.event_journal.specs.declared.event.Event.TheVariants.{Entry, Exit}
+use Rattle.event_log.specs.LastEntry.{entered_by, entered_last}
 use Rattle.kernel_model.proofs.ReadsOfRam.{histories_read_ram}
-use Rattle.kernel_model.specs.Application.{Booted}
 use Rattle.kernel_model.specs.Argument.{IsNew, is_new, reg}
-use Rattle.kernel_model.specs.History.{IsLegal}
 use Rattle.kernel_model.specs.Turns.{IsReadOfRam, ReadsRam}
 use Rattle.msg_args.specs.Reading.{head_at}
-use Rattle.notify_play.specs.Duty.{CameIn, Duty, Enables, Nothing, RunsBottomHalf, Stops, TellsValue, came_with, duty_of, duty_of_call, duty_of_fast, duty_of_head, entered_last}
+use Rattle.notify_play.specs.Duty.{CameIn, Duty, Enables, Nothing, RunsBottomHalf, Stops, TellsValue, came_with, duty_of, duty_of_call, duty_of_fast, duty_of_head}
 use Rattle.ns_ram.specs.Lane.{IsInRam}
 use Rattle.ns_ram.specs.declared.read.Read.{Read}
 use Rattle.smc_abi.specs.Call.{call_of}
@@ -19,7 +18,7 @@ use Rattle.smc_abi.specs.declared.call.Call.{Call}
 use Rattle.smc_abi.specs.declared.call.Call.TheVariants.{Fast, WithArg, WithRpcArg, WithRegdArg, Resume, Unknown}
 use Rattle.smc_abi.specs.declared.call.FastCall.{FastCall}
 use Rattle.smc_abi.specs.declared.call.FastCall.TheVariants.{CallsUid, CallsRevision, OsUuid, OsRevision, ShmConfig, Capabilities, DisableShmCache, EnableShmCache, ThreadCount}
-use Rattle.notify_player.specs.Asking.{HasArgument, came_at}
+use Rattle.notify_player.specs.Asking.{HasArgument, IsLastOfLegal, came_by}
 use Rattle.notify_player.proofs.HeadsFirst.{ReadsHeadFirst, heads_come_first}
 
 -- ---- an entry
@@ -32,26 +31,27 @@ pub record IsGoodEntry (came : CameIn) : Type 0 where
 no_entry : IsGoodEntry (came_with [] [])
 no_entry = record { head = λ is. tt; of_ram = tt }
 
-good_event : (cpu : ℕ) (event : Event) → ReadsHeadFirst event → ReadsRam event
-    → IsGoodEntry (entered_last cpu (came_with [] []) (event ∷ []))
-good_event cpu (Entry came given steps reads) heads ram = by (came == cpu)
+good_by : (cpu : ℕ) (before : Option Event) (event : Event) → ReadsHeadFirst event → ReadsRam event
+    → IsGoodEntry (came_by before) → IsGoodEntry (came_by (entered_by cpu before event))
+good_by cpu before (Entry came given steps reads) heads ram good = by (came == cpu)
   where
-    by : (own : Bool) → IsGoodEntry (if own then came_with given.a reads else came_with [] [])
+    by : (own : Bool) → IsGoodEntry (came_by (if own then Some (Entry came given steps reads) else before))
     by true = record { head = heads; of_ram = ram }
-    by false = no_entry
-good_event cpu (Exit went told) heads ram = no_entry
+    by false = good
+good_by cpu before (Exit went told) heads ram good = good
 
-good_at : (history : List Event) (at cpu : ℕ) → AllByRecursion ReadsHeadFirst history → AllByRecursion ReadsRam history
-    → IsGoodEntry (came_at history at cpu)
-good_at [] at cpu heads ram = no_entry
-good_at (event ∷ history) zero cpu heads ram = good_event cpu event heads.0 ram.0
-good_at (event ∷ history) (suc at) cpu heads ram = good_at history at cpu heads.1 ram.1
+good_last : (cpu : ℕ) (before : Option Event) (events : List Event) → AllByRecursion ReadsHeadFirst events
+    → AllByRecursion ReadsRam events → IsGoodEntry (came_by before) → IsGoodEntry (came_by (entered_last cpu before events))
+good_last cpu before [] heads ram good = good
+good_last cpu before (event ∷ events) heads ram good =
+    good_last cpu (entered_by cpu before event) events heads.1 ram.1 (good_by cpu before event heads.0 ram.0 good)
 
--- at each place of a legal history
-pub good-entry : (boot : Booted) (history : List Event) (at cpu : ℕ) → IsLegal boot history
-    → IsGoodEntry (came_at history at cpu)
-good-entry boot history at cpu legal =
-    good_at history at cpu (heads_come_first boot history legal) (histories_read_ram boot history legal)
+-- the last one of a legal history
+pub good-entry : (entry : Option Event) → IsLastOfLegal entry → IsGoodEntry (came_by entry)
+good-entry entry is =
+    subst (λ (e : Option Event). IsGoodEntry (came_by e)) (sym is.last)
+    (good_last is.cpu None is.history (heads_come_first is.boot is.history is.legal)
+    (histories_read_ram is.boot is.history is.legal) no_entry)
 
 -- ---- its duty
 

@@ -1,36 +1,21 @@
 -- The play of a trace with signals: an item up to its exit, and then what is told at that.
-use Rattle.std.proofs.Common.{◌≡◌, ℕ, List, [], ◌∷◌, length, Option, None, Some, refl, ap, subst}
+use Rattle.std.proofs.Common.{◌≡◌, ℕ, List, Option, None, refl, subst}
 use Rattle.std.specs.Prelude.{Result, Ok, Err, IfErr}
 use Rattle.std.specs.Option.{option_map}
-use Rattle.core_machine.specs.declared.machine.Machine.{Machine}
-use Rattle.event_journal.specs.declared.event.Event.{Event}
 use Rattle.kernel_model.specs.Application.{Booted}
 use Rattle.notify_play.specs.NotifyPlay.{Drivers, NotifyPlay, after_item, goes_out, visit_with, with_play}
-use Rattle.ns_ram.specs.Lane.{bytes_at}
-use Rattle.play_model.proofs.Entries.{entered}
-use Rattle.play_model.specs.Line.{Mem}
-use Rattle.play_model.specs.Play.{Play, enters, lane_of, with_line, with_writes}
+use Rattle.play_model.specs.Play.{enters}
 use Rattle.trace_player.proofs.Items.{plays-alone, plays-exit, plays-stop, then-exit, then-nothing}
-use Rattle.trace_player.specs.Items.{Begins, HasExit, HasNoExit, after_item_of, up_to_exit}
+use Rattle.trace_player.specs.Items.{Begins, HasExit, HasNoExit, after_item_of}
 use Rattle.trace_player.specs.Kinds.{IsKind}
-use Rattle.trace_player.specs.Playing.{CanBeTaken}
 use Rattle.trace_player.specs.declared.exit.Exit.{Exit}
 use Rattle.trace_player.specs.declared.player.Player.{Player}
 use Rattle.trace_text.specs.declared.item.Item.{Item}
 use Rattle.trace_text.specs.declared.item.Item.TheVariants as item
 use Rattle.word_parts.specs.declared.stop.Stop.{Stop}
 use Rattle.word_parts.specs.declared.stop.Stop.TheVariants.{Memory}
-use Rattle.notify_player.specs.Playing.{AreLastEntries, Follows, HasGone, HasPlace, IsPlayedTo, of_signals, places_behind, position_in}
+use Rattle.notify_player.specs.Playing.{Follows, HasGone, IsPlayedTo, of_signals, position_in}
 use Rattle.notify_player.specs.declared.player.NotifyPlayer.{NotifyPlayer}
-use Rattle.notify_player.proofs.Entries.{entries-came}
-
--- a place is kept for each processor that can come in
-pub has-place : (machine : Machine) (i : Item) → CanBeTaken machine i → HasPlace i
-has-place machine (item.Smc cpu steps regs) can = can.few
-has-place machine (item.Enter cpu steps regs) can = can.few
-has-place machine (item.Leave cpu) can = tt
-has-place machine (item.Write cpu addr bytes) can = tt
-has-place machine (item.Show cpu addr len) can = tt
 
 is-kind : (boot : Booted) (drivers : Drivers) → IsKind (of_signals boot drivers)
 is-kind boot drivers = record { over = λ told next. refl }
@@ -51,60 +36,31 @@ module _ (boot : Booted) (drivers : Drivers) (told : NotifyPlay) where
   follows-so i result player old new going follows =
       subst (λ (o : Option NotifyPlay). Follows boot drivers told o result player old new) (same-item i going) follows
 
-  -- ---- where entries stand
-
-  same-entries : (next : Play) (places : List ℕ) → told.play.history ≡ next.history
-      → AreLastEntries told.play.history places → AreLastEntries next.history places
-  same-entries next places same are = subst (λ (h : List Event). AreLastEntries h places) same are
-
-  up-to-entries : (i : Item) (next : Play) (places : List ℕ) → HasPlace i → up_to_exit boot (position_in told) i ≡ Some next
-      → next.refused ≡ None → AreLastEntries told.play.history places
-      → AreLastEntries next.history (places_behind i (length told.play.history) places)
-  up-to-entries (item.Smc cpu steps regs) next places few e going are =
-      let visit = visit_with told cpu steps regs in
-      entries-came boot visit told.play next places few going (entered boot visit told.play next e) are
-  up-to-entries (item.Enter cpu steps regs) next places few e going are =
-      let visit = visit_with told cpu steps regs in
-      entries-came boot visit told.play next places few going (entered boot visit told.play next e) are
-  up-to-entries (item.Leave cpu) next places few e going are =
-      let here : told.play ≡ next = cc in same-entries next places (ap (λ (p : Play). p.history) here) are
-  up-to-entries (item.Write cpu addr bytes) next places few e going are =
-      let here : with_writes cpu (record { addr = addr; bytes = bytes } ∷ []) told.play ≡ next = cc in
-      same-entries next places (ap (λ (p : Play). p.history) here) are
-  up-to-entries (item.Show cpu addr len) next places few e going are =
-      let here : with_line (Mem cpu addr (bytes_at (lane_of told.play cpu) addr len)) told.play ≡ next = cc in
-      same-entries next places (ap (λ (p : Play). p.history) here) are
-
   -- ---- what follows
 
-  -- a player that has begun an item, with the place of its entry
-  abbrev pub begun : Item → NotifyPlayer → Player → NotifyPlayer
-  begun i before player = record before {
-    player = player;
-    entries = places_behind i (length told.play.history) before.entries;
-  }
+  -- a player that has begun an item
+  abbrev pub begun : NotifyPlayer → Player → NotifyPlayer
+  begun before player = record before { player = player }
 
-  pub alone-follows : (i : Item) (before : NotifyPlayer) (player : Player) (old new : List ℕ) → HasPlace i
+  pub alone-follows : (i : Item) (before : NotifyPlayer) (player : Player) (old new : List ℕ)
       → IsPlayedTo boot drivers told before → HasNoExit boot (position_in told) i player old new
-      → Follows boot drivers told (after_item boot drivers i told) (Ok tt) (begun i before player) old new
-  alone-follows i before player old new few stands alone =
-      follows-so i (Ok tt) (begun i before player) old new stands.at.machine.goes_on
-      (plays-alone (of_signals boot drivers) (is-kind boot drivers) (λ p. IsPlayedTo boot drivers p (begun i before player)) told i
+      → Follows boot drivers told (after_item boot drivers i told) (Ok tt) (begun before player) old new
+  alone-follows i before player old new stands alone =
+      follows-so i (Ok tt) (begun before player) old new stands.at.machine.goes_on
+      (plays-alone (of_signals boot drivers) (is-kind boot drivers) (λ p. IsPlayedTo boot drivers p (begun before player)) told i
       player old new alone
       (record {
         at = alone.stands;
         count = stands.count;
-        entries = up-to-entries i alone.next before.entries few alone.comes alone.stands.machine.goes_on stands.entries;
         desk = stands.desk;
       }))
 
-  pub has-gone : (i : Item) (exit : Exit) (before : NotifyPlayer) (player : Player) (old new : List ℕ) → HasPlace i
+  pub has-gone : (i : Item) (exit : Exit) (before : NotifyPlayer) (player : Player) (old new : List ℕ)
       → IsPlayedTo boot drivers told before → (out : HasExit boot (position_in told) i exit player old new)
-      → HasGone boot drivers (with_play told out.between) exit.answer (begun i before player)
-  has-gone i exit before player old new few stands out = record {
+      → HasGone boot drivers (with_play told out.between) exit.answer (begun before player)
+  has-gone i exit before player old new stands out = record {
     goes = out.goes;
     count = stands.count;
-    entries = up-to-entries i out.between before.entries few out.comes out.goes_on stands.entries;
     desk = stands.desk;
   }
 
@@ -122,9 +78,9 @@ module _ (boot : Booted) (drivers : Drivers) (told : NotifyPlay) where
   -- it is not begun
   pub stop-follows : (i : Item) (stop : Stop) (before : NotifyPlayer) (player : Player) (old new : List ℕ)
       → IsPlayedTo boot drivers told before → Begins boot (position_in told) i (Err stop) player old new
-      → Follows boot drivers told (after_item boot drivers i told) (Err stop) (record before { player = player }) old new
+      → Follows boot drivers told (after_item boot drivers i told) (Err stop) (begun before player) old new
   stop-follows i stop before player old new stands stopped =
-      let now : NotifyPlayer = record before { player = player } in
+      let now = begun before player in
       follows-so i (Err stop) now old new stands.at.machine.goes_on
       (plays-stop (of_signals boot drivers) (is-kind boot drivers) (λ p. IsPlayedTo boot drivers p now) told i stop player old new
-      stopped (λ at. record { at = at; count = stands.count; entries = stands.entries; desk = stands.desk }))
+      stopped (λ at. record { at = at; count = stands.count; desk = stands.desk }))

@@ -10,7 +10,7 @@ use Rattle.notify_play.specs.NotifyPlay.{Drivers, NotifyPlay}
 use Rattle.notify_text.specs.declared.notify_trace.Signal.{Signal}
 use Rattle.trace_player.specs.Position.{StandsAt}
 use Rattle.trace_player.specs.declared.player.Player.{Player}
-use Rattle.notify_player.specs.Playing.{AreLastEntries, IsPlayedTo, position_in}
+use Rattle.notify_player.specs.Playing.{IsPlayedTo, position_in}
 use Rattle.notify_player.specs.Signalling.{behind_at, front_at}
 use Rattle.notify_player.specs.declared.player.NotifyPlayer.{NotifyPlayer}
 
@@ -43,13 +43,11 @@ behind-elsewhere at signal signals apart =
 
 -- the player after one signal
 pub signalled : (boot : Booted) (drivers : Drivers) (told : NotifyPlay) (value : ℕ) (before after : NotifyPlayer)
-    → IsPlayedTo boot drivers told before → after.player ≡ before.player → after.entries ≡ before.entries
-    → after.desk ≡ after_signal before.desk value
+    → IsPlayedTo boot drivers told before → after.player ≡ before.player → after.desk ≡ after_signal before.desk value
     → IsPlayedTo boot drivers (record told { calls = desk.Signal value ∷ told.calls }) after
-signalled boot drivers told value before after stands player entries is = record {
+signalled boot drivers told value before after stands player is = record {
   at = subst (λ (p : Player). StandsAt boot (position_in told) p) (sym player) stands.at;
   count = stands.count;
-  entries = subst (AreLastEntries told.play.history) (sym entries) stands.entries;
   desk = is ∙ ap (λ d. after_signal d value) stands.desk;
 }
 

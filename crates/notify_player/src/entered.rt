@@ -1,13 +1,10 @@
 //! How a processor came in, and what its exit asks of the desk.
 
-ghost use Rattle.std.specs.Prelude.{◌≡◌, [], ◌∷◌, IfNone, IfSome, MatchOption};
-ghost use Rattle.kernel_model.specs.Application.{Booted};
-ghost use Rattle.kernel_model.specs.History.{IsLegal};
-ghost use Rattle.notif.specs.Desk.{DeskState};
-ghost use Rattle.notify_play.specs.Duty.{CameIn, came_with, duty_of, entered_last};
-ghost use Rattle.notify_play.specs.Told.{told_regs};
+ghost use Rattle.std.specs.Prelude.{◌≡◌, [], MatchOption};
+ghost use Rattle.std.specs.Option.{option_copied};
+ghost use Rattle.notify_play.specs.Duty.{came_with, duty_of};
 ghost use Rattle.desk_answers.specs.Duties.{duty_in};
-ghost use Rattle.notify_player.specs.Asking.{HasArgument, IsToldAlike, came_at};
+ghost use Rattle.notify_player.specs.Asking.{HasArgument, IsLastOfLegal, IsToldAlike, came_by};
 
 use desk_answers::{Duty, duty_of};
 use event_journal::Event;
@@ -22,50 +19,26 @@ pub struct Asked {
     pub duty: Duty,
 }
 
-/// The registers and the reads of an event that is an entry of this processor.
-fn entry_of(event: &Event, cpu: u8) -> Option<(Regs, &[Read])>
-    ensures entry { IfSome result (λ came.
-        (before : CameIn) → entered_last cpu before (event.now ∷ []) ≡ came_with came.0.a came.1.now) }
-    ensures other { IfNone result ((before : CameIn) → entered_last cpu before (event.now ∷ []) ≡ before) }
+/// The registers and the reads of an entry, if it is one.
+fn entry_in(entry: Option<&Event>) -> Option<(Regs, &[Read])>
+    ensures { MatchOption result (came_by (option_copied entry) ≡ came_with [] [])
+        (λ came. came_by (option_copied entry) ≡ came_with came.0.a came.1.now) }
 {
-    match event {
-        Event::Entry {
-            cpu: came,
-            regs,
-            reads,
-            ..
-        } => {
-            if *came == cpu {
-                Some((*regs, reads.as_slice()))
-            } else {
-                None
-            }
-        }
-        Event::Exit { .. } => None,
+    match entry {
+        Some(Event::Entry { regs, reads, .. }) => Some((*regs, reads.as_slice())),
+        Some(Event::Exit { .. }) | None => None,
     }
 }
 
-/// The registers and the reads of a processor's entry at this place of a history, if one of it stands there.
-fn entry_at(history: &[Event], at: usize, cpu: u8) -> Option<(Regs, &[Read])>
-    ensures { MatchOption result (came_at history.now at cpu ≡ came_with [] [])
-        (λ came. came_at history.now at cpu ≡ came_with came.0.a came.1.now) }
-{
-    let Some(event) = history.get(at) else {
-        return None;
-    };
-    entry_of(event, cpu)
-}
-
-/// What the exit of a processor asks behind these events, whose last entry stands at this place, where the kernel says this in
-/// a0. One that never came in asks nothing.
-pub fn asked_at(history: &[Event], at: usize, cpu: u8, a0: u32) -> Asked
-    requires { (boot : Booted) × IsLegal boot history.now }
-    ensures duty { duty_in result.duty ≡ duty_of (came_at history.now at cpu) a0 }
+/// What the exit of a processor asks by its last entry, where the kernel says this in a0. One that never came in asks nothing.
+pub fn asked_by(entry: Option<&Event>, a0: u32) -> Asked
+    requires { IsLastOfLegal (option_copied entry) }
+    ensures duty { duty_in result.duty ≡ duty_of (came_by (option_copied entry)) a0 }
     // Nothing that is told depends on more of the entry.
-    ensures caller { IsToldAlike (came_at history.now at cpu).regs result.caller.a (duty_in result.duty) }
+    ensures caller { IsToldAlike (came_by (option_copied entry)).regs result.caller.a (duty_in result.duty) }
     ensures argument { HasArgument (duty_in result.duty) }
 {
-    let Some((caller, reads)) = entry_at(history, at, cpu) else {
+    let Some((caller, reads)) = entry_in(entry) else {
         return Asked {
             caller: Regs { a: [0; 8] },
             duty: Duty::Nothing,

@@ -1,6 +1,6 @@
 //! A core with its processors and a desk of signals, which are moved step by step.
 
-ghost use Rattle.std.specs.Prelude.{◌≡◌, ℕ, ◌<◌, [], All, Err, IfErr, IfOk, Some, slice_get};
+ghost use Rattle.std.specs.Prelude.{◌≡◌, ℕ, [], All, Err, IfErr, IfOk};
 ghost use Rattle.kernel_model.specs.Application.{Booted};
 ghost use Rattle.native_tas.specs.Table.{drivers};
 ghost use Rattle.notif.specs.Desk.{IsDeskOf, new_desk};
@@ -8,12 +8,12 @@ ghost use Rattle.notify_play.specs.NotifyPlay.{Drivers, NotifyPlay, after_item, 
 ghost use Rattle.notify_text.specs.Sound.{IsSoundSignal};
 ghost use Rattle.play_model.specs.Play.{Play};
 ghost use Rattle.trace_player.specs.Items.{panic_at_exit};
-ghost use Rattle.trace_player.specs.Playing.{CanBeTaken, CanBeTold};
+ghost use Rattle.trace_player.specs.Playing.{CanBeTaken, CanBeTold, terms_in};
 ghost use Rattle.trace_player.specs.Position.{StandsAt, position_of};
-ghost use Rattle.notify_player.specs.Playing.{Follows, HasGone, HasPlace, IsPlayedTo, places_behind, position_in, without_panic};
+ghost use Rattle.notify_player.specs.Playing.{Follows, HasGone, IsPlayedTo, position_in, without_panic};
 ghost use Rattle.notify_player.specs.Signalling.{behind_at, front_at, signalled_by};
 
-use crate::entered::asked_at;
+use crate::entered::asked_by;
 use crate::writing::write_result;
 use core_machine::{Machine, Told, machines_stand};
 use desk_answers::answer;
@@ -22,7 +22,7 @@ use native_tas::Natives;
 use notif::Desk;
 use notify_text::Signal;
 use std::alloc::Global;
-use trace_player::{MAX_CPUS, Player};
+use trace_player::Player;
 use trace_text::Item;
 use word_parts::Stop;
 
@@ -30,8 +30,6 @@ use word_parts::Stop;
 #[derive(Drop)]
 pub struct NotifyPlayer {
     player: Player,
-    /// Where in the journal the last entry of each processor stands.
-    entries: [usize; MAX_CPUS],
     desk: Desk,
 }
 
@@ -41,11 +39,7 @@ impl NotifyPlayer {
         ensures { (boot : Booted) (ds : Drivers) (play : Play) → StandsAt boot (position_of play) player → play.history ≡ []
             → desk ≡ new_desk ds → IsPlayedTo boot ds (first_notify_play boot play) result }
     {
-        NotifyPlayer {
-            player,
-            entries: [0; MAX_CPUS],
-            desk,
-        }
+        NotifyPlayer { player, desk }
     }
 
     /// The hardware signals the values that stand at the front of these and behind so many items. Gives those behind them.
@@ -54,6 +48,7 @@ impl NotifyPlayer {
         ensures rest { result.now ≡ behind_at at signals.now }
         ensures signals { (boot : Booted) (ds : Drivers) (told : NotifyPlay) → IsPlayedTo boot ds told self.old
             → IsPlayedTo boot ds (signalled_by (front_at at signals.now) told) self.new }
+        ensures terms { terms_in self.new.player ≡ terms_in self.old.player }
     {
         let mut rest = signals;
         while let [first, behind @ ..] = rest {
@@ -73,27 +68,6 @@ impl NotifyPlayer {
         self.player.machine()
     }
 
-    /// Where the last entry of a processor stands.
-    fn entry_of(&self, cpu: u8) -> usize
-        requires { cpu < 8 }
-        ensures { slice_get self.now.entries cpu ≡ Some result }
-    {
-        self.entries[usize::from(cpu)]
-    }
-
-    /// Keeps this place for the entry of an item, where it has one.
-    fn keep_entry(&mut self, item: &Item, place: usize)
-        requires { HasPlace item.now }
-        ensures { self.new ≡ record self.old { entries = places_behind item.now place self.old.entries } }
-    {
-        match item {
-            Item::Smc { cpu, .. } | Item::Enter { cpu, .. } => {
-                self.entries[usize::from(*cpu)] = place;
-            }
-            Item::Leave { .. } | Item::Write { .. } | Item::Show { .. } => {}
-        }
-    }
-
     /// A processor that has gone out is told the core's answer, or the desk's in its place, once the desk has written what it
     /// writes.
     fn answer(&mut self, natives: &Natives, answered: Told, lines: &mut Vec<u8>) -> Result<(), Stop>
@@ -103,11 +77,13 @@ impl NotifyPlayer {
             → Follows boot (drivers natives.now) told (goes_out boot (drivers natives.now) answered.cpu told) result self.new
             lines.old.items lines.new.items }
         ensures memory { IfErr result (λ stop. stop ≡ Stop.Memory) }
+        ensures terms { terms_in self.new.player ≡ terms_in self.old.player }
     {
         machines_stand();
         journals_stay_legal();
         let Told { cpu, regs } = answered;
-        let asked = asked_at(self.player.history(), self.entry_of(cpu), cpu, regs.a[0]);
+        let entry = self.player.machine().core().last_entry(cpu);
+        let asked = asked_by(entry, regs.a[0]);
         let told = answer(&mut self.desk, natives, &asked.caller, regs, asked.duty);
         write_result(&mut self.player, cpu, told.result);
         self.player.tell(cpu, told.regs, lines)
@@ -131,10 +107,9 @@ impl NotifyPlayer {
         ensures panic { (boot : Booted) (told : NotifyPlay) → IsPlayedTo boot (drivers natives.now) told self.old
             → IfOk result (λ panic. panic ≡ panic_at_exit boot (position_in told) item.now) }
         ensures never_fails { result ≡ Err Stop.Failed → ⊥ }
+        ensures terms { terms_in self.new.player ≡ terms_in self.old.player }
     {
-        let place = self.player.history().len();
         let out = self.player.begin_item(alloc, item, lines)?;
-        self.keep_entry(item, place);
         match out {
             Some(exit) => {
                 self.answer(natives, exit.answer, lines)?;

@@ -7,7 +7,7 @@ ghost use Rattle.kernel_model.specs.Application.{Booted};
 ghost use Rattle.kernel_state.specs.Meaning.{booted_of};
 ghost use Rattle.ns_ram.specs.Lane.{IsInRam};
 ghost use Rattle.play_model.specs.Play.{with_writes};
-ghost use Rattle.trace_player.specs.Playing.{HasLane};
+ghost use Rattle.trace_player.specs.Playing.{HasLane, terms_in};
 ghost use Rattle.trace_player.specs.Position.{Position, StandsAt};
 
 use core_machine::machines_stand;
@@ -25,6 +25,7 @@ pub fn write_result(player: &mut Player, cpu: u8, told: Option<ResultIn>)
     ensures writes { (boot : Booted) (at : Position) → StandsAt boot at player.old
         → StandsAt boot (record at { play = with_writes cpu (writes_of told) at.play }) player.new }
     ensures boot { booted_of player.new.machine.at_work.core ≡ booted_of player.old.machine.at_work.core }
+    ensures terms { terms_in player.new ≡ terms_in player.old }
 {
     machines_stand();
     let Some(ResultIn { arg, ret }) = told else {

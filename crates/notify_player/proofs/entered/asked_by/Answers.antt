@@ -5,7 +5,7 @@ use Rattle.notify_play.specs.Told.{told_regs}
 use Rattle.desk_answers.specs.Duties.{duty_in}
 use Rattle.notify_player.specs.Asking.{HasArgument}
 use Rattle.notify_player.proofs.Asked.{IsGoodEntry, good-entry, has-argument}
-use Rattle.notify_player.proofs.entered.asked_at.Goals as goal
+use Rattle.notify_player.proofs.entered.asked_by.Goals as goal
 
 -- one that never came in asks nothing
 pub returns-in_default-clause-duty : goal.returns-in_default-clause-duty
@@ -19,8 +19,7 @@ pub returns-in_default-clause-argument : goal.returns-in_default-clause-argument
 returns-in_default-clause-argument c = tt
 
 pub duty_of-duty-requires : goal.duty_of-duty-requires
-duty_of-duty-requires c =
-    (subst IsGoodEntry c.in-Some.ensures (good-entry c.requires.0 c.args.history.now c.args.at c.args.cpu c.requires.1)).head
+duty_of-duty-requires c = (subst IsGoodEntry c.in-Some.ensures (good-entry _ c.requires)).head
 
 pub returns-clause-duty : goal.returns-clause-duty
 returns-clause-duty c =
@@ -32,5 +31,5 @@ returns-clause-caller c = λ desk answered.
 
 pub returns-clause-argument : goal.returns-clause-argument
 returns-clause-argument c =
-    let good = subst IsGoodEntry c.in-Some.ensures (good-entry c.requires.0 c.args.history.now c.args.at c.args.cpu c.requires.1) in
+    let good = subst IsGoodEntry c.in-Some.ensures (good-entry _ c.requires) in
     subst HasArgument (sym c.duty_of-duty.ensures) (has-argument _ c.args.a0 good)

@@ -1,12 +1,14 @@
-use Rattle.std.proofs.Common.{refl}
-use Rattle.base.specs.Zeros.{zeros}
-use Rattle.kernel_model.specs.Application.{booted}
-use Rattle.native_tas.specs.Table.{drivers, entries}
-use Rattle.play_model.specs.Play.{first_play}
+-- A sound boot is one of which a core can be made.
+use Rattle.std.specs.Prelude.{map}
+use Rattle.core_at_work.proofs.Apart.{none_repeated, within_limits}
+use Rattle.kernel_model.specs.Application.{Native}
+use Rattle.native_tas.specs.Table.{entries}
 use Rattle.notify_player.proofs.player.NotifyPlayer.booted.Goals as goal
 
-pub returns-clause-stands : goal.returns-clause-stands
-returns-clause-stands g c =
-    let on = booted c.args.boot (entries c.args.natives.now) in
-    c.new-2.ensures on (drivers c.args.natives.now) (first_play (zeros 0x400000) on c.args.fills.now)
-    c.in_ok-player.ensures.stands refl c.in_ok-desk.ensures
+pub core_of-requires-clause-limits : goal.core_of-requires-clause-limits
+core_of-requires-clause-limits g c = within_limits c.args.boot c.requires.boot.boots
+
+pub core_of-requires-clause-apart : goal.core_of-requires-clause-apart
+core_of-requires-clause-apart g c =
+    none_repeated (map (λ (native : Native). native.0) (entries c.args.natives.now)) c.args.boot c.requires.boot.boots
+    c.requires.boot.no_native

@@ -1,11 +1,10 @@
--- Nobody was told anything, and each processor's last entry is none.
-use Rattle.std.proofs.Common.{List, [], ap, sym, refl, ◌∙◌}
+-- Nobody was told anything.
+use Rattle.std.proofs.Common.{List, [], ap, sym, ◌∙◌}
 use Rattle.std.specs.Prelude.{replicate, slice_index_or}
 use Rattle.std.proofs.lemmas.List.{get_or-replicate, length-replicate}
 use Rattle.event_journal.specs.declared.event.Event.{Event}
 use Rattle.play_model.specs.Play.{last_answer}
 use Rattle.trace_player.proofs.Answers.{same-told}
-use Rattle.notify_player.proofs.Entries.{first-entries}
 use Rattle.notify_player.proofs.player.NotifyPlayer.new.Goals as goal
 
 pub returns : goal.returns
@@ -17,6 +16,5 @@ returns c = λ boot ds play at none new. record {
       ap (λ (h : List Event). last_answer h cpu) none ∙ sym (get_or-replicate boot.cpus cpu (replicate 8 0) [] below))
       at;
   count = length-replicate boot.cpus _;
-  entries = first-entries play.history _ none refl;
   desk = new;
 }

@@ -34,7 +34,7 @@ loop-rest-preserved c =
       signalled = λ boot ds told stands.
           let was = c.loop-rest.invariant.signalled boot ds told stands in (
             _,
-            signalled boot ds was.0 _ c.loop-rest.self (record c.loop-rest.self { desk = c.signal.new.self }) was.1 refl refl c.signal.ensures,
+            signalled boot ds was.0 _ c.loop-rest.self (record c.loop-rest.self { desk = c.signal.new.self }) was.1 refl c.signal.ensures,
             sym (ap (λ (l : List Signal). signalled_by l was.0) (front-more c.args.at rest _ some c.if-first-at.false))
                 ∙ was.2,
           );

@@ -1,0 +1,14 @@
+-- A sound boot is one of which a core can be made.
+use Rattle.std.specs.Prelude.{map}
+use Rattle.core_at_work.proofs.Apart.{none_repeated, within_limits}
+use Rattle.kernel_model.specs.Application.{Native}
+use Rattle.native_tas.specs.Table.{entries}
+use Rattle.notify_player.proofs.player.NotifyPlayer.counting.Goals as goal
+
+pub core_on-requires-clause-limits : goal.core_on-requires-clause-limits
+core_on-requires-clause-limits g c = within_limits c.args.boot c.requires.boot.boots
+
+pub core_on-requires-clause-apart : goal.core_on-requires-clause-apart
+core_on-requires-clause-apart g c =
+    none_repeated (map (λ (native : Native). native.0) (entries c.args.natives.now)) c.args.boot c.requires.boot.boots
+    c.requires.boot.no_native
