@@ -1,5 +1,5 @@
 -- From a player at the end of a trace to the bytes of its journal, and to what is written of them.
-use Rattle.std.proofs.Common.{◌≡◌, ℕ, inr, List, Option, None, Some, refl, sym, ap, subst, ◌∙◌}
+use Rattle.std.proofs.Common.{◌≡◌, ℕ, ◌≤◌, ◌^◌, inr, List, Option, None, Some, refl, sym, ap, subst, ◌∙◌, arith}
 use Rattle.std.specs.Option.{option_map}
 use Rattle.std.specs.Prelude.{IsSomeAnd}
 use Rattle.audit.specs.Laws.{CoreJournalsAreSound}
@@ -8,9 +8,11 @@ use Rattle.journal_bytes.specs.Grammar.{Spells}
 use Rattle.journal_bytes.specs.Sound.{IsSoundJournal}
 use Rattle.journal_bytes.specs.Spelling.{SpellsBack, spelling, whole_with}
 use Rattle.kernel_model.specs.Application.{Booted, Native}
+use Rattle.kernel_state.specs.Terms.{kept_terms}
+use Rattle.kernel_state.specs.declared.terms.Terms.{Terms}
 use Rattle.play_model.specs.Play.{Play, played}
 use Rattle.ta_isa.specs.declared.boot.Boot.{Boot}
-use Rattle.trace_player.specs.Playing.{history_of}
+use Rattle.trace_player.specs.Playing.{history_of, terms_in}
 use Rattle.trace_player.specs.Refused.{refused_in}
 use Rattle.trace_player.specs.Starting.{uuids_of}
 use Rattle.trace_player.specs.declared.player.Player.{Player}
@@ -26,17 +28,20 @@ use Rattle.journal_runner.specs.Reading.{SpellsAlone}
 use Rattle.journal_runner.specs.Recorded.{StandsAtEnd}
 use Rattle.journal_runner.specs.Recording.{HasSpelledJournal, journal_for, journal_of, journal_with, recording}
 
+within : (terms : Terms) → terms ≡ kept_terms → terms.most ≤ 2 ^ 28
+within terms are = let same : terms.most ≡ 2 ^ 28 = ap (λ (t : Terms). t.most) are in omega (arith, same)
+
 module _ (natives : List Native) (trace : Trace) (player : Player) (named : Status) (end : StandsAtEnd natives trace player named)
     (header : Boot) (has_boot : trace.boot ≡ Some header) (events : List Event) (are : events ≡ history_of player) where
   same_boot : end.boot ≡ header
   same_boot = let both : Some end.boot ≡ Some header = sym end.has_boot ∙ has_boot in cc
 
   -- it can be written
-  pub sound_journal : CoreJournalsAreSound → IsSoundJournal header.cpus events
-  sound_journal sound =
+  pub sound_journal : terms_in player ≡ kept_terms → CoreJournalsAreSound → IsSoundJournal header.cpus events
+  sound_journal terms sound =
       subst (λ (boot : Boot). IsSoundJournal boot.cpus events) same_boot
       (subst (λ (on : Booted). IsSoundJournal on.cpus events) end.booted
-      (subst (IsSoundJournal _) (sym are) (sound.of_core player.machine.at_work.core)))
+      (subst (IsSoundJournal _) (sym are) (sound.of_core player.machine.at_work.core (within (terms_in player) terms))))
 
   -- and is the trace's
   pub journal_is : (bytes : List ℕ) → bytes ≡ spelling header events → journal_for natives trace ≡ Some bytes

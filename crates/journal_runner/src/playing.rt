@@ -4,6 +4,7 @@ ghost use Rattle.journal_bytes.specs.Spelling.{spelling};
 ghost use Rattle.journal_runner.specs.Recorded.{IsRecordOf, StandsAtEnd};
 ghost use Rattle.kernel_model.specs.Application.{Native};
 ghost use Rattle.native_tas.specs.Table.{entries};
+ghost use Rattle.trace_player.specs.Playing.{terms_in};
 ghost use Rattle.trace_player.specs.Starting.{IsAtStart, trace_of, uuids_of};
 ghost use Rattle.trace_text.specs.Sound.{IsSound};
 ghost use Rattle.trace_text.specs.declared.trace.Trace.{Trace};
@@ -29,8 +30,9 @@ pub struct Recorded {
 /// Plays the items of a trace on a player that stands before the first of them, up to a refused entry. What they print is let go.
 fn play_items(alloc: Global, player: &mut Player, items: &[Item]) -> Result<Status, NoMemory>
     requires { (natives : List Native) × (trace : Trace) × IsAtStart natives trace items.now player.old }
-    ensures { (natives : List Native) (trace : Trace) → IsAtStart natives trace items.now player.old
+    ensures end { (natives : List Native) (trace : Trace) → IsAtStart natives trace items.now player.old
         → IfOk result (StandsAtEnd natives trace player.new) }
+    ensures terms { terms_in player.new ≡ terms_in player.old }
 {
     machines_stand();
     let mut lines = Vec::new(alloc);
