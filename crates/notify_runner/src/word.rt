@@ -31,7 +31,7 @@ fn play<K: Sink>(
     let Some(boot) = boot else {
         return Ok(());
     };
-    let Ok(mut player) = NotifyPlayer::booted(alloc, boot, natives, fills.as_slice()) else {
+    let Ok(mut player) = NotifyPlayer::counting(alloc, boot, natives, fills.as_slice()) else {
         return Err(Stop::Memory);
     };
     play_steps(

@@ -8,8 +8,8 @@ use Rattle.trace_player.specs.Starting.{uuids_of}
 use Rattle.notify_runner.proofs.Playable.{at-start}
 use Rattle.notify_runner.proofs.word.play.Goals as goal
 
-pub booted-requires-clause-boot : goal.booted-requires-clause-boot
-booted-requires-clause-boot g c =
+pub counting-requires-clause-boot : goal.counting-requires-clause-boot
+counting-requires-clause-boot g c =
     subst (λ (o : Option Boot). IfSome o (IsSoundBoot (uuids_of (entries c.args.natives.now)))) c.in-Some.is
     c.requires.trace.boot
 
