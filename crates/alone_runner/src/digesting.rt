@@ -1,10 +1,11 @@
 //! Playing a trace of which no line is kept: each goes into a digest and the counts of answers.
 
-ghost use Rattle.std.specs.Prelude.{◌≡◌, ℕ, List, [], Err, IfOk, IsSome, Some};
+ghost use Rattle.std.specs.Prelude.{◌≡◌, ℕ, List, [], Err, IfOk, IsSome, IsTrue, Some};
 ghost use Rattle.kernel_model.specs.Application.{Native};
 ghost use Rattle.native_tas.specs.Table.{entries};
 ghost use Rattle.trace_text.specs.Sound.{IsSound};
 ghost use Rattle.trace_text.specs.declared.trace.Trace.{Trace};
+ghost use Rattle.trace_player.specs.Playing.{terms_in};
 ghost use Rattle.trace_player.specs.Refused.{refused_in};
 ghost use Rattle.alone_runner.specs.Digesting.{IsDigested};
 ghost use Rattle.trace_player.specs.Starting.{IsAtStart, uuids_of};
@@ -25,10 +26,11 @@ pub struct Digested {
     pub digest: [u8; 32],
 }
 
-/// Plays the items of a trace on a player that stands before the first of them, up to a refused entry or want of memory,
-/// and gives the counts of all answers and the SHA-256 of the lines that they print.
+/// Plays the items of a trace on a player that stands before the first of them and keeps its events, up to a refused entry or want
+/// of memory, and gives the counts of all answers and the SHA-256 of the lines that they print.
 fn digest_items(alloc: Global, player: &mut Player, items: &[Item]) -> Result<Digested, Stop>
-    requires { (natives : List Native) × (trace : Trace) × IsAtStart natives trace items.now player.old }
+    requires start { (natives : List Native) × (trace : Trace) × IsAtStart natives trace items.now player.old }
+    requires keeps { IsTrue (terms_in player.old).keeps }
     ensures told { IfOk result (λ digested. (natives : List Native) (trace : Trace)
         → IsAtStart natives trace items.now player.old → IsDigested natives trace digested) }
     ensures full { result ≡ Err Stop.Full → (natives : List Native) (trace : Trace)
@@ -44,7 +46,7 @@ fn digest_items(alloc: Global, player: &mut Player, items: &[Item]) -> Result<Di
         lines.clear();
     }
     Ok(Digested {
-        counts: AnswerCounts::of(player.history()),
+        counts: AnswerCounts::of(player.journal().as_slice()),
         digest: hasher.finalize(),
     })
 }

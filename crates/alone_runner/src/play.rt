@@ -28,7 +28,7 @@ pub fn play<K: Sink>(
     let Some(boot) = boot else {
         return Ok(());
     };
-    let Ok(mut player) = Player::booted(alloc, boot, natives, fills.as_slice()) else {
+    let Ok(mut player) = Player::counting(alloc, boot, natives, fills.as_slice()) else {
         return Err(Stop::Memory);
     };
     play_items(alloc, &mut player, items.as_slice(), out)

@@ -14,8 +14,8 @@ use Rattle.alone_runner.proofs.play.play.Goals as goal
 pub returns-in_default-clause-told : goal.returns-in_default-clause-told
 returns-in_default-clause-told g c = told-none (entries c.args.natives.now) c.args.trace _ _ c.in_default.is (Appends-nil _)
 
-pub booted-requires-clause-boot : goal.booted-requires-clause-boot
-booted-requires-clause-boot g c =
+pub counting-requires-clause-boot : goal.counting-requires-clause-boot
+counting-requires-clause-boot g c =
     subst (λ (o : Option Boot). IfSome o (IsSoundBoot (uuids_of (entries c.args.natives.now)))) c.in-Some.is c.requires.boot
 
 pub play_items-requires : goal.play_items-requires
