@@ -5,7 +5,7 @@ ghost use Rattle.native_tas.specs.Table.{entries};
 use crate::conditions::are_of_only_app;
 use crate::events::tell_events;
 use crate::feeding::feed;
-use crate::playing::{boot_again, played};
+use crate::playing::{boot_again, journal_of, played};
 use crate::reading::trace_of;
 use crate::replies::line_of;
 use anyhow::{Context, Result, bail};
@@ -122,6 +122,6 @@ pub(crate) fn sessions_told(alloc: Global, name: &str, text: &[u8]) -> Result<Ve
     let trace = trace_of(alloc, &natives, text)?;
     let boot = boot_again(alloc, &natives, text, &trace)?;
     let player = played(alloc, &natives, trace)?;
-    let journal = player.machine().core().journal();
+    let journal = journal_of(&player);
     Ok(tell_sessions(alloc, &boot, &natives, journal, sessions)?.into_bytes())
 }

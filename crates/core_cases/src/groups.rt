@@ -6,7 +6,7 @@ use crate::comparing::tell_replies;
 use crate::conditions::has_shared_app;
 use crate::events::tell_group_events;
 use crate::feeding::feed;
-use crate::playing::{boot_again, played};
+use crate::playing::{boot_again, journal_of, played};
 use crate::reading::trace_of;
 use crate::replies::line_of;
 use anyhow::{Result, bail};
@@ -98,7 +98,7 @@ pub(crate) fn group_told(alloc: Global, text: &[u8]) -> Result<String> {
         bail!("no first application whose sessions share an instance");
     }
     let player = played(alloc, &natives, trace)?;
-    let journal = player.machine().core().journal();
+    let journal = journal_of(&player);
     let mut told = String::new(alloc);
     tell_group(alloc, &boot, &natives, journal, &mut told)?;
     Ok(told)

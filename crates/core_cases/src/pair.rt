@@ -2,7 +2,8 @@
 ghost use Rattle.std.specs.Prelude.{◌≡◌, ◌≤◌, ◌∷◌, [], map, IfOk, vec_capacity, vec_len};
 ghost use Rattle.core_lock.specs.Passes.{AreUnused, number};
 ghost use Rattle.normal_cpus.specs.Sharing.{AreCpusOf, boot_of};
-ghost use Rattle.kernel_state.specs.Meaning.{booted_of};
+ghost use Rattle.kernel_state.specs.Meaning.{booted_of, terms_of};
+ghost use Rattle.kernel_state.specs.Terms.{kept_terms};
 ghost use Rattle.core_cases.specs.Cpus.{IsPairOf};
 
 use crate::cpu::Cpu;
@@ -126,7 +127,8 @@ impl Pair {
         requires own { IsPairOf shared self }
         requires room { (passes.items ≡ []) × (vec_len passes ≡ 0) × (2 ≤ vec_capacity passes) }
         requires count { (boot_of shared).cpus ≡ 2 }
-        ensures { booted_of result ≡ boot_of shared }
+        ensures boot { booted_of result ≡ boot_of shared }
+        ensures kept { terms_of result ≡ kept_terms }
     {
         let Pair { first, second } = self;
         passes.push_reserved(first.pass);

@@ -4,7 +4,8 @@
 //! where the player of a trace takes its items one after the other.
 ghost use Rattle.std.specs.Prelude.{◌≡◌, ◌∷◌, [], All, map};
 ghost use Rattle.core_lock.specs.Passes.{AreUnused, number};
-ghost use Rattle.kernel_state.specs.Meaning.{booted_of, events_of};
+ghost use Rattle.kernel_state.specs.Meaning.{booted_of, events_of, terms_of};
+ghost use Rattle.kernel_state.specs.Terms.{kept_terms};
 ghost use Rattle.native_tas.specs.Table.{entries};
 ghost use Rattle.normal_cpus.specs.Sharing.{AreCpusOf, boot_of};
 ghost use Rattle.core_cases.specs.Cpus.{IsPairOf};
@@ -212,6 +213,7 @@ fn serve_items(
     told: &mut Vec<u8>,
 ) -> Result<()>
     requires events { events_of core ≡ [] }
+    requires kept { terms_of core ≡ kept_terms }
     requires cpus { (booted_of core).cpus ≡ 2 }
 {
     match share(alloc, core) {

@@ -19,8 +19,8 @@ pub fn tell_stand(machine: &Machine, told: &mut Vec<u8>) -> io::Result<()> {
     writeln!(
         told,
         "{} events, {} bytes read, {} free slots, {} free pages, {inside} inside",
-        core.journal().len(),
-        core.journal().copied(),
+        core.event_count(),
+        core.copied(),
         core.free_slots(),
         core.free_pages()
     )
