@@ -34,8 +34,9 @@ pub struct ThreadsPlay {
     pub refused: bool,
 }
 
-/// Plays the items of a trace on a core that keeps its events, and where nothing has happened, each processor in a thread of its own, over these lanes, one
-/// for each processor by its number, and joins them all. Work for which no thread can be started is done by the caller.
+/// Plays the items of a trace on a core that keeps its events, and where nothing has happened, each processor in a thread of its
+/// own, over these lanes, one for each processor by its number, and joins them all. Work for which no thread can be started is done
+/// by the caller.
 ///
 /// The pace is called by each processor between the entry and the exit of each of its calls, under no turn.
 ///
