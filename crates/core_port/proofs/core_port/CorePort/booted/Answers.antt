@@ -5,10 +5,10 @@ use Rattle.kernel_model.specs.Application.{Native}
 use Rattle.native_tas.specs.Table.{entries}
 use Rattle.core_port.proofs.core_port.CorePort.booted.Goals as goal
 
-pub booted-requires-clause-limits : goal.booted-requires-clause-limits
-booted-requires-clause-limits g c = within_limits c.args.boot c.requires.boot.boots
+pub booted_on-requires-clause-limits : goal.booted_on-requires-clause-limits
+booted_on-requires-clause-limits g c = within_limits c.args.boot c.requires.boot.boots
 
-pub booted-requires-clause-apart : goal.booted-requires-clause-apart
-booted-requires-clause-apart g c =
+pub booted_on-requires-clause-apart : goal.booted_on-requires-clause-apart
+booted_on-requires-clause-apart g c =
     none_repeated (map (λ (native : Native). native.0) (entries c.args.natives.now)) c.args.boot c.requires.boot.boots
     c.requires.boot.no_native
