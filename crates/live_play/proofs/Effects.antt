@@ -4,8 +4,9 @@ use Rattle.std.specs.Prelude.{◌||◌, IfNone, is_none, is_some}
 use Rattle.std.specs.List.{list_all}
 use Rattle.std.proofs.lemmas.List.{length-append}
 use Rattle.notify_text.specs.Rules.{NotifyFront, after_line, has_no_signal, is_signal, line_rules, no_lines, other_rules, signal_rules, with_signal}
+use Rattle.notify_text.specs.Statement.{with_trace}
 use Rattle.notify_text.specs.declared.notify_trace.Signal.{Signal}
-use Rattle.notify_text.proofs.Lines.{after-same, after-signal, after-skipped, rules-by-words, with_trace}
+use Rattle.notify_text.proofs.Lines.{after-same, after-signal, after-skipped, rules-by-words}
 use Rattle.ta_isa.specs.declared.boot.App.{App}
 use Rattle.ta_isa.specs.declared.boot.Boot.{Boot}
 use Rattle.text_lines.specs.Lines.{is_skipped}

@@ -1,6 +1,7 @@
 pub mod Asked
 pub mod Changing
 pub mod Effects
+pub mod Forgetting
 pub mod Grown
 pub mod Outgoing
 pub mod Returned

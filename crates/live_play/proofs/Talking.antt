@@ -8,14 +8,14 @@ use Rattle.kernel_model.specs.Application.{Booted, booted}
 use Rattle.kernel_model.proofs.Parts.{some_of}
 use Rattle.line_port.specs.History.{Input}
 use Rattle.line_port.specs.History as heard
-use Rattle.notify_play.specs.NotifyPlay.{NotifyPlay, after_step, after_steps, first_notify_play, notify_played_over, unless_refused}
+use Rattle.notify_play.specs.NotifyPlay.{NotifyPlay, after_step, after_steps, first_notify_play, notify_played_within, unless_refused}
 use Rattle.notify_play.proofs.Following.{steps_are_played}
 use Rattle.notify_play.proofs.Ordered.{steps_hold_in_order}
 use Rattle.notify_text.specs.Rules.{NotifyFront, after_line, no_lines, told_in}
 use Rattle.notify_text.specs.Steps.{Signals, Step, Takes, steps_from, steps_of}
 use Rattle.notify_text.specs.declared.notify_trace.Signal.{Signal}
 use Rattle.play_model.specs.Line.{Line}
-use Rattle.play_model.specs.Play.{first_play}
+use Rattle.play_model.specs.Play.{first_play_within}
 use Rattle.ta_isa.specs.declared.boot.Boot.{Boot}
 use Rattle.trace_text.specs.declared.fault.BadKind.{BadKind}
 use Rattle.trace_text.specs.declared.item.Item.{Item}
@@ -34,10 +34,11 @@ use Rattle.live_play.proofs.Unasked.{unasked_play}
 -- before the first step
 abbrev pub start : Platform → Boot → NotifyFront → NotifyPlay
 start on boot lines =
-    first_notify_play (booted boot on.natives) (first_play on.ram (booted boot on.natives) lines.trace.fills)
+    first_notify_play (booted boot on.natives)
+    (first_play_within on.most_bytes on.ram (booted boot on.natives) lines.trace.fills)
 
 abbrev pub play_of : Platform → Boot → NotifyFront → Option NotifyPlay
-play_of on boot lines = notify_played_over on.ram on.natives on.drivers boot (told_in lines)
+play_of on boot lines = notify_played_within on.most_bytes on.ram on.natives on.drivers boot (told_in lines)
 
 -- with this boot
 pub with_boot : (on : Platform) (boot : Boot) (lines : NotifyFront) → lines.trace.boot ≡ Some boot
@@ -58,7 +59,7 @@ more-played on boot before after last was is fills steps =
     with_boot on boot after is
     ∙ ap (λ (s : List Step). after_steps kernel on.drivers s (start on boot after)) steps
     ∙ ap (λ fs. after_steps kernel on.drivers (steps_of (told_in before) ++ last ∷ [])
-    (first_notify_play kernel (first_play on.ram kernel fs))) fills
+    (first_notify_play kernel (first_play_within on.most_bytes on.ram kernel fs))) fills
     ∙ steps-one kernel on.drivers (steps_of (told_in before)) last (start on boot before)
     ∙ ap (option_and_then (unless_refused (after_step kernel on.drivers last))) (sym (with_boot on boot before was))
 
@@ -288,12 +289,12 @@ turns_are_told on inputs boot told there boots e =
     let printed : printed_in (answers on no_lines inputs) ≡ told.play.lines = sym grown.1 ∙ ap printed_by e in
     let P : List Line → Type 0 = λ lines. AllZip (IsReturnOf on.drivers) (exits_in told.play.history) (returns_in lines) in
     record {
-      holds = steps_are_played on.ram on.natives on.drivers boot last.trace.fills (steps_of (told_in last)) told boots
+      holds = steps_are_played on.most_bytes on.ram on.natives on.drivers boot last.trace.fills (steps_of (told_in last)) told boots
           (sym (with_boot on boot last there) ∙ e);
-      in_order = steps_hold_in_order on.ram on.natives on.drivers boot last.trace.fills (steps_of (told_in last)) told boots
+      in_order = steps_hold_in_order on.most_bytes on.ram on.natives on.drivers boot last.trace.fills (steps_of (told_in last)) told boots
           (sym (with_boot on boot last there) ∙ e);
       going = sym (ap refused_by e) ∙ all.stage.going;
       printed = printed;
       returns = subst P (sym printed) (returned_at on boot last told there e);
-      unasked = unasked_play on.ram on.natives on.drivers boot (told_in last) told boots (sym (with_boot on boot last there) ∙ e);
+      unasked = unasked_play on.most_bytes on.ram on.natives on.drivers boot (told_in last) told boots (sym (with_boot on boot last there) ∙ e);
     }

@@ -19,7 +19,7 @@ use Rattle.kernel_model.proofs.Past.{after_events-append}
 use Rattle.kernel_model.proofs.SoundSteps.{as_many}
 use Rattle.notif.specs.History.{Signal}
 use Rattle.notify_play.specs.Duty.{Nothing, duty_of, last_entry}
-use Rattle.notify_play.specs.NotifyPlay.{Drivers, NotifyPlay, after_item, after_step, after_steps, comes_in, desk_of, duty_at, first_notify_play, goes_out, goes_out_with, notify_played_over, tells, unless_refused, visit_with, with_play}
+use Rattle.notify_play.specs.NotifyPlay.{Drivers, NotifyPlay, after_item, after_step, after_steps, comes_in, desk_of, duty_at, first_notify_play, goes_out, goes_out_with, notify_played_within, tells, unless_refused, visit_with, with_play}
 use Rattle.notify_play.specs.Told.{told_regs}
 use Rattle.notify_play.proofs.Asking.{steps_call_desk}
 use Rattle.notify_play.proofs.Following.{other_exits_stay}
@@ -28,7 +28,7 @@ use Rattle.notify_text.specs.declared.notify_trace.NotifyTrace.{NotifyTrace}
 use Rattle.notify_text.specs.declared.notify_trace.Signal as trace_signal
 use Rattle.ns_ram.specs.Lane.{bytes_at}
 use Rattle.play_model.specs.Line.{Mem}
-use Rattle.play_model.specs.Play.{with_line, lane_of, Play, after_items, enters, first_play, last_answer, leaves, number_in, played_over, told_last, visit_of, with_event, with_writes}
+use Rattle.play_model.specs.Play.{with_line, lane_of, Play, after_items, enters, first_play_within, last_answer, leaves, number_in, played_within, told_last, visit_of, with_event, with_writes}
 use Rattle.play_model.specs.Play as trace_play
 use Rattle.play_model.proofs.Entries.{CameIn, Entered, WasRefused, entered, event_made}
 use Rattle.smc_abi.specs.declared.regs.Regs.{Regs}
@@ -148,9 +148,9 @@ record IsAsTrace (boot : Booted) (told : NotifyPlay) : Type 0 where
       ≡ slice_index (last_answer told.play.history cpu) register
   kernel : kernel_after boot told.play.history ≡ Some told.play.kernel
 
-trace-first : (boot : Booted) (ram : List ℕ) (told : NotifyTrace)
-    → IsAsTrace boot (first_notify_play boot (first_play ram boot told.trace.fills))
-trace-first boot ram told = record {
+trace-first : (most_bytes : ℕ) (boot : Booted) (ram : List ℕ) (told : NotifyTrace)
+    → IsAsTrace boot (first_notify_play boot (first_play_within most_bytes ram boot told.trace.fills))
+trace-first most_bytes boot ram told = record {
   many = length-replicate boot.cpus (replicate 8 0);
   last = λ cpu register. first_told boot.cpus cpu register;
   kernel = refl;
@@ -353,11 +353,13 @@ module _ (boot : Booted) (drivers : Drivers) (boots : IsBooted boot) where
 
 -- ---- the law
 
-pub unasked_play : (ram : List ℕ) (natives : List Native) (drivers : Drivers) (boot : Boot) (told : NotifyTrace) (play : NotifyPlay)
-    → IsBooted (booted boot natives) → notify_played_over ram natives drivers boot told ≡ Some play
-    → AsksNothing play.play.history → played_over ram natives boot told.trace ≡ Some play.play
-unasked_play ram natives drivers boot told play boots e asks =
+pub unasked_play : (most_bytes : ℕ) (ram : List ℕ) (natives : List Native) (drivers : Drivers) (boot : Boot) (told : NotifyTrace)
+    (play : NotifyPlay) → IsBooted (booted boot natives)
+    → notify_played_within most_bytes ram natives drivers boot told ≡ Some play
+    → AsksNothing play.play.history → played_within most_bytes ram natives boot told.trace ≡ Some play.play
+unasked_play most_bytes ram natives drivers boot told play boots e asks =
     let kernel : Booted = booted boot natives in
-    let start : Play = first_play ram kernel told.trace.fills in
+    let start : Play = first_play_within most_bytes ram kernel told.trace.fills in
     ap (λ (items : List Item). after_items kernel items start) (sym (items-steps 0 told.trace.items told.signals))
-    ∙ steps-as_trace kernel drivers boots (steps_of told) (first_notify_play kernel start) play e (trace-first kernel ram told) asks
+    ∙ steps-as_trace kernel drivers boots (steps_of told) (first_notify_play kernel start) play e
+    (trace-first most_bytes kernel ram told) asks

@@ -1,7 +1,7 @@
 -- What is answered to a line of a conversation, and which lines count behind it. The lines are those of a trace with signals,
 -- each answered when it has come by what the play of the trace with it prints more than the play without it. This project's
 -- own.
-use Rattle.std.specs.Prelude.{ℕ, List, [], ◌∷◌, ◌++◌, Bool, true, false, codes, drop, if◌then◌else◌, length, map, Option, IfSome, IsSome}
+use Rattle.std.specs.Prelude.{ℕ, ◌^◌, List, [], ◌∷◌, ◌++◌, Bool, true, false, codes, drop, if◌then◌else◌, length, map, Option, IfSome, IsSome}
 use Rattle.std.specs.Fmt.{decimal}
 use Rattle.std.specs.List.{flat_map}
 use Rattle.std.specs.Option.{option_and_then, option_map_or}
@@ -10,7 +10,7 @@ use Rattle.event_journal.specs.Journal.{copied_bytes}
 use Rattle.kernel_model.specs.Application.{IsBooted, Native, booted}
 use Rattle.line_port.specs.History.{Input}
 use Rattle.line_port.specs.History as heard
-use Rattle.notify_play.specs.NotifyPlay.{Drivers, NotifyPlay, notify_played_over}
+use Rattle.notify_play.specs.NotifyPlay.{Drivers, NotifyPlay, notify_played_within}
 use Rattle.notify_text.specs.Rules.{NotifyFront, after_line, line_rules, told_in}
 use Rattle.play_model.specs.Line.{Line, text_of_line}
 use Rattle.ta_isa.specs.declared.boot.Boot.{Boot}
@@ -27,10 +27,17 @@ pub record Platform : Type 0 where
   pub drivers : Drivers
   -- what each processor's RAM holds at first
   pub ram : List ℕ
+  -- the most bytes that all entries read
+  pub most_bytes : ℕ
 
 -- RAM of zeros
+abbrev pub platform_within : ℕ → List Native → Drivers → Platform
+platform_within most_bytes natives drivers =
+    record { natives = natives; drivers = drivers; ram = zeros 0x400000; most_bytes = most_bytes }
+
+-- entries read as much as those of a trace may
 abbrev pub platform : List Native → Drivers → Platform
-platform natives drivers = record { natives = natives; drivers = drivers; ram = zeros 0x400000 }
+platform natives drivers = platform_within (2 ^ 28) natives drivers
 
 -- the UUIDs of the applications
 abbrev pub uuids_in : Platform → List (List ℕ)
@@ -41,7 +48,9 @@ uuids_in on = map (λ (native : Native). native.0) on.natives
 -- their play, where there is a boot among them
 abbrev pub play_at : Platform → NotifyFront → Option NotifyPlay
 play_at on lines =
-    option_and_then (λ (boot : Boot). notify_played_over on.ram on.natives on.drivers boot (told_in lines)) lines.trace.boot
+    option_and_then
+    (λ (boot : Boot). notify_played_within on.most_bytes on.ram on.natives on.drivers boot (told_in lines))
+    lines.trace.boot
 
 -- what it has printed
 abbrev pub printed_at : Platform → NotifyFront → List Line

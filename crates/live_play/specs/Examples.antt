@@ -1,5 +1,5 @@
 -- Conversations of a few lines, and how they go.
-use Rattle.std.specs.Prelude.{◌≡◌, ℕ, ◌+◌, List, [], ◌∷◌, ◌++◌, codes, map, replicate, Some}
+use Rattle.std.specs.Prelude.{◌≡◌, ℕ, ◌+◌, ◌^◌, List, [], ◌∷◌, ◌++◌, codes, map, replicate, Some}
 use Rattle.std.specs.List.{flat_map}
 use Rattle.event_journal.specs.declared.event.Event.TheVariants as event
 use Rattle.line_port.specs.History.{Event, Hears, Input, Says}
@@ -15,7 +15,7 @@ use Rattle.live_play.specs.Returns.{AsksNothing}
 
 -- RAM is shorter here: none of the lines looks behind its first bytes
 abbrev pub on : Platform
-on = record { natives = natives; drivers = echo; ram = replicate 64 0 }
+on = record { natives = natives; drivers = echo; ram = replicate 64 0; most_bytes = 2 ^ 28 }
 
 -- a line that is heard, and the lines that are said to it
 pub record Turn : Type 0 where

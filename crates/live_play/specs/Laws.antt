@@ -12,7 +12,7 @@ use Rattle.notify_text.specs.Grammar.{Leads, Spells, is_no_signal}
 use Rattle.notify_text.specs.Rules.{NotifyFront, after_line, no_lines, told_in}
 use Rattle.notify_text.specs.Steps.{steps_of}
 use Rattle.play_model.specs.Line.{Line, text_of_line}
-use Rattle.play_model.specs.Play.{played_over}
+use Rattle.play_model.specs.Play.{played_within}
 use Rattle.play_model.specs.Text.{text_of}
 use Rattle.ta_isa.specs.declared.boot.Boot.{Boot}
 use Rattle.trace_text.specs.Grammar as trace
@@ -43,8 +43,8 @@ pub record RefusalsChangeNothing : Type 0 where
 -- what holds of the play of the lines that count behind a part of a conversation
 pub record IsHeld (on : Platform) (inputs : List Input) (boot : Boot) (told : NotifyPlay) : Type 0 where
   -- it is the play of one history, legal from the boot, with the kernel's own answers, and with all that is said of the
-  -- plays of a trace with signals
-  pub holds : IsNotifyPlay (booted boot on.natives) on.drivers told
+  -- plays of a trace with signals; its entries have read at most as much as they may
+  pub holds : IsNotifyPlay on.most_bytes (booted boot on.natives) on.drivers told
   -- it holds the items and the signals of these lines in their order, each signal at its place; each return that it has printed is
   -- its exit as the processor was told it there
   pub in_order : HoldsSteps on.drivers (steps_of (told_in (after_all on no_lines inputs))) told
@@ -57,7 +57,7 @@ pub record IsHeld (on : Platform) (inputs : List Input) (boot : Boot) (told : No
   pub returns : AllZip (IsReturnOf on.drivers) (exits_in told.play.history) (returns_in (printed_in (answers on no_lines inputs)))
   -- and where no exit in it asks anything of the desk, it is the play of the same lines without the signals among them
   pub unasked : AsksNothing told.play.history →
-      played_over on.ram on.natives boot (trace_in (after_all on no_lines inputs).trace) ≡ Some told.play
+      played_within on.most_bytes on.ram on.natives boot (trace_in (after_all on no_lines inputs).trace) ≡ Some told.play
 
 -- of each conversation, behind each of its turns: the next lines may depend on the answers in any way
 abbrev pub TurnsAreTold : Type 0

@@ -1,6 +1,7 @@
--- A conversation with lines that ask, and with exits that are watched. What asks changes nothing that counts, and what is said
--- more stands beside the answers of a conversation without it. This project's own.
-use Rattle.std.specs.Prelude.{◌≡◌, ◌⊎◌, ℕ, List, [], ◌∷◌, ◌++◌, Bool, false, if◌then◌else◌, is_some, Option, None, Some, slice_index_or, take}
+-- A conversation with lines that ask, with exits that are watched, and with history off. What asks changes nothing that counts,
+-- and what is said more stands beside the answers of a conversation without it; where history is off, entries read as much as they
+-- will in a life. This project's own.
+use Rattle.std.specs.Prelude.{◌≡◌, ◌⊎◌, ℕ, ◌^◌, List, [], ◌∷◌, ◌++◌, Bool, true, false, if◌then◌else◌, Option, None, Some, slice_index_or, take}
 use Rattle.std.specs.List.{flat_map}
 use Rattle.std.specs.Option.{option_map_or}
 use Rattle.base.specs.NumberMap.{get}
@@ -12,18 +13,22 @@ use Rattle.line_port.specs.History as heard
 use Rattle.line_port.specs.declared.finish.Finish.{Finish}
 use Rattle.line_port.specs.declared.finish.Finish.TheVariants.{Memory, Over, ReadFault, WriteFault}
 use Rattle.live_text.specs.Asking.{kind_of_line, question_of, question_rules}
+use Rattle.live_text.specs.Rules.{LiveFront, is_history, no_lines, with_told, without_history}
+use Rattle.live_text.specs.Rules as live
+use Rattle.live_text.specs.Scene.{scene_of}
 use Rattle.live_text.specs.declared.question.Question.{Question}
 use Rattle.live_text.specs.declared.question.Question.TheVariants as asks
 use Rattle.live_text.specs.declared.question.QuestionKind.{QuestionKind}
 use Rattle.notify_play.specs.NotifyPlay.{NotifyPlay}
-use Rattle.notify_text.specs.Rules.{NotifyFront, no_lines}
+use Rattle.notify_text.specs.Rules.{NotifyFront}
 use Rattle.play_model.specs.Line.{Line, Mem, Ret, text_of_line}
 use Rattle.ta_isa.specs.declared.boot.Boot.{Boot}
 use Rattle.text_lines.specs.Words.{words_of}
 use Rattle.trace_text.specs.Limits.{first_broken}
+use Rattle.trace_text.specs.declared.fault.BadKind.{BadKind}
 use Rattle.trace_text.specs.declared.item.Item.{Item}
 use Rattle.trace_text.specs.declared.item.Item.TheVariants as item
-use Rattle.live_play.specs.Answer.{Answer, Bad, Done, IsPlayed, Platform, after_heard, answer, play_at, text_of_ending}
+use Rattle.live_play.specs.Answer.{Answer, Bad, Done, Ending, IsPlayed, Platform, after_heard, answer, play_at, text_of_ending, uuids_in}
 use Rattle.live_play.specs.Changes.{changes, text_of_changes}
 use Rattle.live_play.specs.Conversation.{said_to}
 use Rattle.live_play.specs.Panicking.{panic_between, panic_line}
@@ -33,12 +38,20 @@ use Rattle.live_play.specs.State.{buffer_lines, event_lines, session_line, state
 
 pub record Position : Type 0 where
   -- the lines that count
-  pub lines : NotifyFront
+  pub lines : LiveFront
   -- exits are followed by what they change in RAM
   pub is_watching : Bool
 
 abbrev pub first_position : Position
 first_position = record { lines = no_lines; is_watching = false }
+
+-- the platform, where all entries read at most so many bytes
+abbrev pub within : Platform → ℕ → Platform
+within on most_bytes = record on { most_bytes = most_bytes }
+
+-- behind lines that count: where history is off they may read 2^63
+abbrev pub platform_at : Platform → LiveFront → Platform
+platform_at on lines = within on (if lines.forgets then 2 ^ 63 else on.most_bytes)
 
 -- ---- what is answered to a question
 
@@ -58,11 +71,11 @@ told_at on lines question =
     lines.trace.boot
 
 -- a line of a question of this kind breaks this rule; or it is answered
-abbrev pub shown_to_question : Platform → NotifyFront → QuestionKind → List ℕ → List ℕ
+abbrev pub shown_to_question : Platform → LiveFront → QuestionKind → List ℕ → List ℕ
 shown_to_question on lines kind line = option_map_or
     (λ fault. text_of_ending (Bad fault))
-    (first_broken (question_rules kind (is_some lines.trace.boot) line))
-    (told_at on lines (question_of kind (words_of line)) ++ text_of_ending Done)
+    (first_broken (question_rules kind (scene_of lines) line))
+    (told_at (platform_at on lines) lines.told (question_of kind (words_of line)) ++ text_of_ending Done)
 
 -- ---- what is said of exits that are watched
 
@@ -97,13 +110,27 @@ abbrev pub watched_answer : Platform → NotifyFront → NotifyFront → Answer 
 watched_answer on before after given =
     flat_map (watched_line on before after) given.lines ++ text_of_ending given.ending
 
--- ---- what is shown to what was heard
+-- ---- history off
 
-abbrev pub shown_to_other : Platform → Position → Input → List ℕ
-shown_to_other on here input =
-    if here.is_watching
-    then watched_answer on here.lines (after_heard on here.lines input) (answer on here.lines input)
-    else said_to on here.lines input
+-- the line begins with `history`: it asks nothing, and is none of a trace with signals
+abbrev pub turns_history : Input → Bool
+turns_history (heard.Line line) = is_history (words_of line)
+turns_history heard.Long = false
+turns_history heard.Cut = false
+
+-- the first rule that such a line breaks behind these lines
+abbrev pub history_fault : Platform → LiveFront → List ℕ → Option BadKind
+history_fault on lines line = first_broken (live.line_rules (uuids_in on) lines true line)
+
+-- how its answer ends, which has no other lines
+abbrev pub history_ending : Platform → LiveFront → List ℕ → Ending
+history_ending on lines line = option_map_or Bad (history_fault on lines line) Done
+
+-- the lines that count then
+abbrev pub history_turned : Platform → LiveFront → List ℕ → LiveFront
+history_turned on lines line = option_map_or (λ kind. lines) (history_fault on lines line) (without_history lines)
+
+-- ---- what is shown to what was heard
 
 abbrev pub kind_asked_by : Input → Option QuestionKind
 kind_asked_by (heard.Line line) = kind_of_line line
@@ -115,11 +142,27 @@ line_of (heard.Line line) = line
 line_of heard.Long = []
 line_of heard.Cut = []
 
+-- to a line of a trace with signals
+abbrev pub shown_to_other : Platform → Position → Input → List ℕ
+shown_to_other on here input =
+    let there = platform_at on here.lines in
+    let before = here.lines.told in
+    if here.is_watching
+    then watched_answer there before (after_heard there before input) (answer there before input)
+    else said_to there before input
+
+-- to what asks nothing
+abbrev pub shown_to_unasked : Platform → Position → Input → List ℕ
+shown_to_unasked on here input =
+    if turns_history input
+    then text_of_ending (history_ending on here.lines (line_of input))
+    else shown_to_other on here input
+
 abbrev pub shown_to : Platform → Position → Input → List ℕ
 shown_to on here input = option_map_or
     (λ kind. shown_to_question on here.lines kind (line_of input))
     (kind_asked_by input)
-    (shown_to_other on here input)
+    (shown_to_unasked on here input)
 
 -- ---- what it has come to then
 
@@ -134,14 +177,27 @@ watching_after (asks.Events from count) watching = watching
 abbrev pub position_asked : Position → QuestionKind → List ℕ → Position
 position_asked here kind line = option_map_or
     (λ fault. here)
-    (first_broken (question_rules kind (is_some here.lines.trace.boot) line))
+    (first_broken (question_rules kind (scene_of here.lines) line))
     (record here { is_watching = watching_after (question_of kind (words_of line)) here.is_watching })
+
+-- the lines behind a line of a trace with signals
+abbrev pub lines_after_other : Platform → LiveFront → Input → LiveFront
+lines_after_other on lines input = with_told lines (after_heard (platform_at on lines) lines.told input)
+
+-- the lines behind what asks nothing
+abbrev pub lines_after : Platform → LiveFront → Input → LiveFront
+lines_after on lines input =
+    if turns_history input then history_turned on lines (line_of input) else lines_after_other on lines input
 
 abbrev pub position_after : Platform → Position → Input → Position
 position_after on here input = option_map_or
     (λ kind. position_asked here kind (line_of input))
     (kind_asked_by input)
-    (record here { lines = after_heard on here.lines input })
+    (record here { lines = lines_after on here.lines input })
+
+-- that there is a play of these lines
+abbrev pub ArePlayed : Platform → LiveFront → Type 0
+ArePlayed on lines = IsPlayed (platform_at on lines) lines.told
 
 -- ---- all of it
 
@@ -163,7 +219,7 @@ IsShownRest on here Over rest = rest ≡ []
 IsShownRest on here ReadFault rest = rest ≡ []
 IsShownRest on here WriteFault rest =
     (input : Input) × (n : ℕ) × (rest ≡ Hears input ∷ Says (take n (shown_to on here input)) ∷ [])
-    × IsPlayed on (position_after on here input).lines
+    × ArePlayed on (position_after on here input).lines
 IsShownRest on here Memory rest = (rest ≡ []) ⊎ ((input : Input) × (rest ≡ Hears input ∷ []))
 
 -- whatever was heard, the history grew by a conversation, in which lines may ask
@@ -172,4 +228,4 @@ pub record IsShowing (on : Platform) (old new : Option (List Event)) (finish : F
   pub rest : List Event
   pub history : Adds old new (showing on first_position inputs ++ rest)
   pub ended : IsShownRest on (position_behind on first_position inputs) finish rest
-  pub played : IsPlayed on (position_behind on first_position inputs).lines
+  pub played : ArePlayed on (position_behind on first_position inputs).lines

@@ -17,12 +17,16 @@ use Rattle.ta_step.specs.State.{State}
 use Rattle.live_play.specs.Changes.{changes, text_of_changes}
 use Rattle.live_play.specs.Examples.{Turn, events_of, inputs_of, ok, on, turn, uid_told, zeros_told}
 use Rattle.live_play.specs.Panicking.{panic_line}
-use Rattle.live_play.specs.Showing.{first_position, showing}
+use Rattle.live_play.specs.Showing.{first_position, showing, within}
 use Rattle.live_play.specs.State.{buffer_lines, instance_line, instance_lines, masked_line, session_line, slot_line, state_text}
 
 -- a conversation in which lines may ask goes so
 abbrev pub Shows : List Turn → Type 0
 Shows turns = showing on first_position (inputs_of turns) ≡ events_of turns
+
+-- and so it goes where all entries may read no byte
+abbrev pub ShowsWithoutBytes : List Turn → Type 0
+ShowsWithoutBytes turns = showing (within on 0) first_position (inputs_of turns) ≡ events_of turns
 
 -- nothing is kept, and so many events have come
 abbrev pub nothing_kept : ℕ → List (List ℕ)
@@ -124,6 +128,23 @@ pub record ShowingExamples : Type 0 where
       ∷ turn (codes "write 0 40000014 00") ok
       ∷ turn zeros_call (zeros_told ∷ ok)
       ∷ [])
+  -- history is turned off once, before the boot; then no events are told, and their count is as it was
+  pub of_history_off : Shows (
+      turn (codes "history on") (codes "bad item" ∷ [])
+      ∷ turn (codes "history off") ok
+      ∷ turn (codes "history off") (codes "bad repeat" ∷ [])
+      ∷ turn (codes "events 0 1") (codes "bad place" ∷ [])
+      ∷ turn (codes "boot 1 1 3") ok
+      ∷ turn (codes "history off") (codes "bad place" ∷ [])
+      ∷ turn (codes "smc 0 1 bf00ff01 0 0 0 0 0 0 0") (uid_told 0 ∷ ok)
+      ∷ turn (codes "events 0 1") (codes "bad place" ∷ [])
+      ∷ turn (codes "state") (codes "slot 0 free" ∷ nothing_kept 2)
+      ∷ [])
+  -- an entry that reads more than entries may is refused, and where history is off none is
+  pub of_a_limit : ShowsWithoutBytes (
+      turn (codes "boot 1 1 1") ok ∷ turn zeros_call (codes "full 0" ∷ []) ∷ turn zeros_call (codes "full 0" ∷ []) ∷ [])
+  pub of_no_limit : ShowsWithoutBytes (
+      turn (codes "history off") ok ∷ turn (codes "boot 1 1 1") ok ∷ turn zeros_call (zeros_told ∷ ok) ∷ [])
   -- slots
   pub free : slot_line 0 Free ≡ codes "slot 0 free" ++ 10 ∷ []
   pub active : slot_line 15 (Active 3 (waiting None true)) ≡ codes "slot 15 active 3" ++ 10 ∷ []

@@ -1,7 +1,8 @@
 -- What holds of each conversation in which lines may ask.
-use Rattle.std.specs.Prelude.{◌≡◌, ℕ, List, [], ◌∷◌, ◌++◌, Bool, true, false, filter, is_none, None, Some}
+use Rattle.std.specs.Prelude.{◌≡◌, ℕ, List, [], ◌∷◌, ◌++◌, ◌&&◌, Bool, true, false, not, filter, is_none, is_some, Some}
 use Rattle.std.specs.List.{list_all}
 use Rattle.line_port.specs.History.{Event, Hears, Input, Says}
+use Rattle.live_text.specs.Rules.{LiveFront}
 use Rattle.live_text.specs.declared.question.QuestionKind.{QuestionKind}
 use Rattle.live_text.specs.declared.question.QuestionKind.TheVariants.{Watch}
 use Rattle.notify_text.specs.Rules.{NotifyFront, no_lines}
@@ -10,13 +11,17 @@ use Rattle.play_model.specs.Line.{Ret, text_of_line}
 use Rattle.live_play.specs.Answer.{Answer, Done, Platform, after_heard, answer, text_of_ending}
 use Rattle.live_play.specs.Changes.{changes}
 use Rattle.live_play.specs.Conversation.{after_all, conversation}
-use Rattle.live_play.specs.Showing.{Position, kind_asked_by, lane_at, position_after, position_behind, showing, shown_to, shown_to_other, text_behind}
+use Rattle.live_play.specs.Showing.{Position, first_position, history_ending, history_turned, kind_asked_by, lane_at, line_of, lines_after_other, platform_at, position_after, position_behind, showing, shown_to, shown_to_other, shown_to_unasked, text_behind, turns_history, watched_answer}
 
 -- it asks nothing
-abbrev pub is_plain : Input → Bool
-is_plain input = is_none (kind_asked_by input)
+abbrev pub asks_nothing : Input → Bool
+asks_nothing input = is_none (kind_asked_by input)
 
--- nothing that asks was heard
+-- it is a line of a trace with signals, or none of a conversation
+abbrev pub is_plain : Input → Bool
+is_plain input = asks_nothing input && not (turns_history input)
+
+-- nothing was heard but such lines
 abbrev pub hears_plain : Event → Bool
 hears_plain (Hears input) = is_plain input
 hears_plain (Says bytes) = true
@@ -31,23 +36,56 @@ pub record QuestionsChangeNothing : Type 0 where
       (kind ≡ Watch → ⊥) → position_after on here input ≡ here
   -- so it could as well have been left out
   pub left_out : (on : Platform) (here : Position) (inputs : List Input) →
-      (position_behind on here inputs).lines ≡ after_all on here.lines (filter is_plain inputs)
+      (position_behind on here inputs).lines ≡ (position_behind on here (filter asks_nothing inputs)).lines
   -- and what is shown to a line that asks nothing is what is shown to it without all that asked before it, but for whether exits
   -- are watched
-  pub shown : (on : Platform) (here : Position) (front : List Input) (input : Input) → is_plain input ≡ true →
-      let behind = position_behind on here front in
-      shown_to on behind input
-      ≡ shown_to_other on (record { lines = after_all on here.lines (filter is_plain front); is_watching = behind.is_watching }) input
+  pub shown : (on : Platform) (here : Position) (front : List Input) (input : Input) → asks_nothing input ≡ true →
+      shown_to on (position_behind on here front) input
+      ≡ shown_to_unasked on (record {
+        lines = (position_behind on here (filter asks_nothing front)).lines;
+        is_watching = (position_behind on here front).is_watching;
+      }) input
 
--- ---- a conversation in which nothing asks
+-- ---- history off
 
--- it is what it was before lines could ask
+-- it doesn't turn history off
+abbrev pub keeps_history : Input → Bool
+keeps_history input = not (turns_history input)
+
+-- what counts behind a part of a conversation, of the lines of a trace with signals: it is what counts behind these lines alone,
+-- where entries read as much as they may by then
+pub record IsAsWithout (on : Platform) (here : Position) (inputs : List Input) : Type 0 where
+  pub lines : (position_behind on here inputs).lines.told
+      ≡ after_all (platform_at on (position_behind on here inputs).lines) here.lines.told (filter is_plain inputs)
+  -- and to the next such line this is shown
+  pub shown : (input : Input) → is_plain input ≡ true →
+      shown_to on (position_behind on here inputs) input ≡ shown_to_other on (position_behind on here inputs) input
+
+pub record HistoryOffForgetsAlone : Type 0 where
+  -- such a line is answered by the first rule that it breaks, or counts
+  pub turned : (on : Platform) (here : Position) (input : Input) → turns_history input ≡ true →
+      (shown_to on here input ≡ text_of_ending (history_ending on here.lines (line_of input)))
+      × (position_after on here input ≡ record here { lines = history_turned on here.lines (line_of input) })
+  -- where there is none, the lines of a trace with signals count and are answered as they are alone
+  pub stays : (on : Platform) (here : Position) (inputs : List Input) → list_all keeps_history inputs ≡ true →
+      IsAsWithout on here inputs
+  -- and so they do in each conversation
+  pub in_order : (on : Platform) (inputs : List Input) → IsAsWithout on first_position inputs
+  -- behind a boot history stays as it is
+  pub booted : (on : Platform) (front behind : List Input) →
+      is_some (position_behind on first_position front).lines.told.trace.boot ≡ true →
+      (position_behind on first_position (front ++ behind)).lines.forgets
+      ≡ (position_behind on first_position front).lines.forgets
+
+-- ---- a conversation in which nothing asks, and no line turns history off
+
+-- it is what it was before lines could
 pub record PlainConversationsAreAsBefore : Type 0 where
-  pub said : (on : Platform) (lines : NotifyFront) (inputs : List Input) → list_all is_plain inputs ≡ true →
-      showing on (record { lines = lines; is_watching = false }) inputs ≡ conversation on lines inputs
-  -- a line that asks nothing counts, and is answered, as it is there, but for what is said of exits that are watched
-  pub counted : (on : Platform) (here : Position) (input : Input) → kind_asked_by input ≡ None →
-      (position_after on here input ≡ record here { lines = after_heard on here.lines input })
+  pub said : (on : Platform) (lines : LiveFront) (inputs : List Input) → list_all is_plain inputs ≡ true →
+      showing on (record { lines = lines; is_watching = false }) inputs ≡ conversation (platform_at on lines) lines.told inputs
+  -- such a line counts, and is answered, as it is there, but for what is said of exits that are watched
+  pub counted : (on : Platform) (here : Position) (input : Input) → is_plain input ≡ true →
+      (position_after on here input ≡ record here { lines = lines_after_other on here.lines input })
       × (shown_to on here input ≡ shown_to_other on here input)
 
 -- ---- exits that are watched
@@ -60,7 +98,7 @@ told_out cpu regs = record { lines = Ret cpu regs ∷ []; ending = Done }
 -- RAM
 abbrev pub IsWatched : Platform → NotifyFront → Input → ℕ → List ℕ → Type 0
 IsWatched on before input cpu regs =
-    shown_to_other on (record { lines = before; is_watching = true }) input
+    watched_answer on before (after_heard on before input) (answer on before input)
     ≡ text_of_line (Ret cpu regs) ++ text_behind on before (after_heard on before input) cpu ++ text_of_ending Done
 
 -- what has changed in the processor's RAM, laid over what it is behind these lines, gives what it is behind those

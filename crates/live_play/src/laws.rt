@@ -3,7 +3,7 @@ ghost use Rattle.live_play.specs.Examples.{Examples};
 ghost use Rattle.live_play.specs.Changes.{ChangesTellAll};
 ghost use Rattle.live_play.specs.Laws.{GoodConversationsAreTraces, RefusalsChangeNothing, TurnsAreTold, UnaskedConversationsAreRuns};
 ghost use Rattle.live_play.specs.ShowingExamples.{ShowingExamples};
-ghost use Rattle.live_play.specs.ShowingLaws.{ExitsAreWatched, PlainConversationsAreAsBefore, QuestionsChangeNothing};
+ghost use Rattle.live_play.specs.ShowingLaws.{ExitsAreWatched, HistoryOffForgetsAlone, PlainConversationsAreAsBefore, QuestionsChangeNothing};
 
 /// A line that breaks a rule, and one whose entry would have all entries read too much, are answered so, and change nothing.
 pub fn refusals_change_nothing()
@@ -43,7 +43,13 @@ pub fn questions_change_nothing()
     ensures { QuestionsChangeNothing }
 {}
 
-/// A conversation in which no line asks, and no exit is watched, is what it is without such lines.
+/// A line `history off` changes how much entries may read, and whether events are told, and nothing of the lines that count: those
+/// of a trace with signals are answered as they are without it, up to that limit.
+pub fn history_off_forgets_alone()
+    ensures { HistoryOffForgetsAlone }
+{}
+
+/// A conversation in which no line asks or turns history off, and no exit is watched, is what it is without such lines.
 pub fn plain_conversations_are_as_before()
     ensures { PlainConversationsAreAsBefore }
 {}

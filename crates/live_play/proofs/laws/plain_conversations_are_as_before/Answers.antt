@@ -1,9 +1,10 @@
-use Rattle.std.proofs.Common.{None}
-use Rattle.live_play.proofs.Asked.{after_question, shown_by, unasked_said}
+use Rattle.live_play.proofs.Asked.{is_other, other_after, other_shown, unasked_said}
 use Rattle.live_play.proofs.laws.plain_conversations_are_as_before.Goals as goal
 
 pub returns : goal.returns
 returns c = record {
   said = unasked_said;
-  counted = λ on here input is. (after_question on here input None is, shown_by on here input None is);
+  counted = λ on here input plain.
+      let other = is_other input plain in
+      (other_after on here input other, other_shown on here input other);
 }

@@ -13,16 +13,20 @@ use Rattle.trace_text.specs.Rules.{added, counts, kind_named, rules_behind}
 use Rattle.trace_text.specs.Rules.{after_line as after_trace_line}
 use Rattle.uuid.specs.Text.{by_index}
 use Rattle.live_text.specs.Asking.{kind_asked}
+use Rattle.live_text.specs.Rules.{line_rules as live_line_rules}
 use Rattle.live_play.specs.Changes.{changes_below}
 use Rattle.live_play.specs.State.{piece_lines, texts_below}
 use Rattle.live_play.proofs.laws.questions_shown.Goals as goal
 
 pub returns : goal.returns
-unfolding zeros digits driver_values signal_values hex_on_literals decode_pairs after_line line_rules is_skipped bytes decimal hexadecimal is_decimal is_hex is_hexadecimal is_last is_register register is_uuid uuid inside_after lies_in_ram added counts rules_behind after_trace_line kind_named by_index front_instruction word_at kind_asked changes_below piece_lines texts_below
+unfolding live_line_rules zeros digits driver_values signal_values hex_on_literals decode_pairs after_line line_rules is_skipped bytes decimal hexadecimal is_decimal is_hex is_hexadecimal is_last is_register register is_uuid uuid inside_after lies_in_ram added counts rules_behind after_trace_line kind_named by_index front_instruction word_at kind_asked changes_below piece_lines texts_below
 returns c = record {
   of_a_state = refl;
   of_events = refl;
   of_watched_exits = refl;
+  of_history_off = refl;
+  of_a_limit = refl;
+  of_no_limit = refl;
   free = refl;
   active = refl;
   suspended = refl;
