@@ -92,7 +92,7 @@ booted_turned on lines heard.Cut turns there = absurd cc
 abbrev header_answer : NotifyFront → List ℕ → Option BadKind → Answer
 header_answer before line fault = option_map_or (λ kind. without_lines (Bad kind)) fault (without_lines Done)
 
-quiet_answer : (on : Platform) (before after : NotifyFront) → IsHeader before → IsHeader after
+pub quiet_answer : (on : Platform) (before after : NotifyFront) → IsHeader before → IsHeader after
     → answer_between on before after ≡ without_lines Done
 quiet_answer on before after was now =
     ap (answer_unless on before after) (quiet on after now).going
