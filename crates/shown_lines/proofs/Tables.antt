@@ -1,5 +1,5 @@
 -- What is told of the tables of a core is told of its kernel.
-use Rattle.std.proofs.Common.{◌≡◌, ℕ, ◌<◌, List, [], ◌∷◌, ◌++◌, length, get_or, map, Option, Some, Result, Ok, Err, refl, suc, sym, ap, subst, ◌∙◌, arith, inl, inr}
+use Rattle.std.proofs.Common.{◌≡◌, ℕ, ◌<◌, Bool, List, [], ◌∷◌, ◌++◌, length, get_or, map, Option, Some, Result, Ok, Err, refl, suc, sym, ap, subst, ◌∙◌, arith, inl, inr}
 use Rattle.std.proofs.Math.Logic.{∥∥₁_elim}
 use Rattle.std.proofs.Props.{props}
 use Rattle.std.proofs.lemmas.Option.{get_or_from_slice_get, slice_get-map, slice_get_cases, slice_get_read}
@@ -22,6 +22,7 @@ use Rattle.live_play.specs.State.{count_lines, inside_lines, instance_lines, mas
 use Rattle.live_text.specs.declared.question.Question.{Question}
 use Rattle.rpc_cont.specs.declared.cont.Cont.{Cont}
 use Rattle.thread_slots.specs.declared.slot.Slot.{Slot}
+use Rattle.shown_lines.specs.Asking.{CanTell}
 use Rattle.shown_lines.proofs.Texts.{more}
 
 -- ---- slots
@@ -100,3 +101,8 @@ kernel_told (Ok done) parts question old new tells fact = ∥∥₁_elim fact (P
     ap (option_map (λ (kernel : Kernel). old ++ told_by (booted_with parts.setup) kernel parts.journal.events question)) so.comes_to
     ∙ ap Some (sym (tells so)))
 kernel_told (Err fault) parts question old new tells fact = tt
+
+-- a log keeps its events where its core does
+pub can_tell : (parts : Parts) (question : Question) → CanTell parts.setup.terms.keeps question → ∥ Replays parts ∥₁
+    → CanTell parts.journal.keeps question
+can_tell parts question can fact = subst (λ (b : Bool). CanTell b question) (sym (∥∥₁_elim fact (Prim.hlevel props) (λ (so : Replays parts). so.keeps))) can

@@ -1,11 +1,12 @@
 //! Events.
 
-ghost use Rattle.std.specs.Prelude.{◌≡◌, ◌++◌, ◌^◌, ◌<◌, ◌≤◌, OnOk, slice_get};
+ghost use Rattle.std.specs.Prelude.{◌≡◌, ◌++◌, ◌^◌, ◌<◌, ◌≤◌, OnOk, slice_get, true};
 ghost use Rattle.event_journal.specs.Event.{copied_by};
 ghost use Rattle.live_play.specs.State.{entry_line, event_line, event_lines, exit_line, text_if};
 
 use answer_lines::{push_numbered, push_registers};
 use event_journal::{Event, Journal};
+use event_log::Log;
 use smc_abi::Regs;
 use std::alloc::AllocError;
 
@@ -66,7 +67,7 @@ fn push_event_at(text: &mut Vec<u8>, journal: &Journal, at: u64) -> Result<(), A
 }
 
 /// Appends the lines of so many events from one on, as many of them as there are.
-pub(crate) fn push_events(
+fn push_events(
     text: &mut Vec<u8>,
     journal: &Journal,
     from: u32,
@@ -78,4 +79,20 @@ pub(crate) fn push_events(
         push_event_at(text, journal, u64::from(from) + u64::from(number))?;
     }
     Ok(())
+}
+
+/// Appends the lines of so many events of a log that keeps them, from one on, as many of them as there are.
+pub(crate) fn push_kept(
+    text: &mut Vec<u8>,
+    log: &Log,
+    from: u32,
+    count: u32,
+) -> Result<(), AllocError>
+    requires { log.now.keeps ≡ true }
+    ensures { OnOk result (text.new.items ≡ text.old.items ++ event_lines log.now.events from count) }
+{
+    match log.journal() {
+        Some(journal) => push_events(text, journal, from, count),
+        None => unreachable!(),
+    }
 }

@@ -3,14 +3,15 @@
 ghost use Rattle.std.specs.Prelude.{◌≡◌, ◌++◌, OnOk, Some};
 ghost use Rattle.std.specs.Option.{option_map};
 ghost use Rattle.kernel_model.specs.Kernel.{Kernel};
-ghost use Rattle.kernel_state.specs.Meaning.{booted_of, events_of, kernel_of};
+ghost use Rattle.kernel_state.specs.Meaning.{booted_of, events_of, kernel_of, terms_of};
 ghost use Rattle.kernel_state.specs.Replay.{Replays};
 ghost use Rattle.kernel_state.specs.Setup.{booted_with};
 ghost use Rattle.live_play.specs.Showing.{told_by};
 ghost use Rattle.live_play.specs.State.{count_lines, state_text};
+ghost use Rattle.shown_lines.specs.Asking.{CanTell};
 
 use crate::buffers::{push_registered, push_session};
-use crate::events::push_events;
+use crate::events::push_kept;
 use crate::instances::{push_count, push_instances};
 use crate::masks::push_masks;
 use crate::processors::push_insides;
@@ -55,6 +56,7 @@ fn push_parts(
     parts: &Parts,
     question: &Question,
 ) -> Result<(), AllocError>
+    requires { CanTell parts.now.journal.keeps question.now }
     ensures { (so : Replays parts.now) → OnOk result (text.new.items
         ≡ text.old.items ++ told_by (booted_with parts.now.setup) so.kernel parts.now.journal.events question.now) }
 {
@@ -63,17 +65,20 @@ fn push_parts(
         Question::State => push_state(alloc, text, parts),
         Question::Session(number) => push_session(text, &parts.tables.sessions, *number),
         Question::Buffer(cookie) => push_registered(alloc, text, &parts.tables.registry, *cookie),
-        Question::Events { from, count } => push_events(text, &parts.journal, *from, *count),
+        Question::Events { from, count } => push_kept(text, &parts.journal, *from, *count),
     }
 }
 
-/// Appends what a core answers to a question. To be watched is no matter of the core.
+#[tactic(auto, using(crate::proofs::Tables::can_tell))]
+/// Appends what a core answers to a question. To be watched is no matter of the core. Events are asked of a core that keeps
+/// them.
 pub fn push_told(
     alloc: Global,
     text: &mut Vec<u8>,
     core: &Core,
     question: &Question,
 ) -> Result<(), AllocError>
+    requires { CanTell (terms_of core.now).keeps question.now }
     ensures { OnOk result (option_map
         (λ (kernel : Kernel). text.old.items ++ told_by (booted_of core.now) kernel (events_of core.now) question.now)
         (kernel_of core.now) ≡ Some text.new.items) }
