@@ -7,6 +7,7 @@ use Rattle.std.proofs.lemmas.Option.{option_and_then_some}
 use Rattle.base.specs.Zeros.{zeros}
 use Rattle.event_journal.specs.Journal.{copied_bytes}
 use Rattle.event_journal.specs.declared.event.Event.{Event}
+use Rattle.event_journal.specs.declared.event.Event.TheVariants.{Exit}
 use Rattle.client_text.specs.declared.script.ScriptCall.{ScriptCall}
 use Rattle.kernel_model.specs.Application.{Booted, IsBooted, booted}
 use Rattle.kernel_model.specs.History.{after_event}
@@ -18,8 +19,8 @@ use Rattle.ns_ram.specs.Writes.{Write, lane_after}
 use Rattle.ns_ram.specs.declared.read.Read.{Read}
 use Rattle.play_model.specs.Line.{Line, Ret}
 use Rattle.play_model.specs.Play.{Play, after_item, after_items, enters, enters_with, entry_event, first_play, lane_of, last_answer, leaves, number_in, reads_of, unless_refused, visit_of}
-use Rattle.play_model.proofs.Adds.{some_is}
-use Rattle.play_model.proofs.Entries.{CameIn, Entered, WasRefused, entered, left}
+use Rattle.play_model.proofs.Adds.{Ended as PlayEnded, GoesOn, Onward, goes_on as play_goes_on, some_is}
+use Rattle.play_model.proofs.Entries.{CameIn, Entered, Left, WasRefused, entered, event_limit, left}
 use Rattle.play_model.proofs.EventsCome.{exits_come}
 use Rattle.play_model.proofs.LinesStay.{plays_go_on}
 use Rattle.play_model.proofs.TrueToKernel.{plays_are_true}
@@ -49,6 +50,7 @@ beside standing others lines = record {
   lanes = standing.ram ∷ others;
   lines = lines;
   refused = None;
+  most_bytes = 2 ^ 28;
 }
 
 -- a play of the client with them
@@ -203,6 +205,30 @@ nothing_more boot standing others lines comes came makes e =
     let same : comes ≡ came = cc in
     record { items = []; of_client = All-nil IsOfClient; makes = subst (Makes boot [] standing others lines) same makes }
 
+-- an SMC leaves how many bytes entries may read
+entered_limit : (boot : Booted) (visit : Visit) (before after : Play) → Entered boot visit before after
+    → after.most_bytes ≡ before.most_bytes
+entered_limit boot visit before after (CameIn reads few came) = event_limit boot (entry_event visit reads) before after came
+entered_limit boot visit before after (WasRefused reads much is) = ap (λ (p : Play). p.most_bytes) (sym is)
+
+left_limit : (boot : Booted) (before after : Play) → Left boot 0 before after → after.most_bytes ≡ before.most_bytes
+left_limit boot before after out =
+    ap (λ (p : Play). p.most_bytes) (sym out.is)
+    ∙ event_limit boot (Exit 0 (record { a = out.exited.regs })) before out.gone out.came
+
+going_limit : (boot : Booted) (before after : Play) → GoesOn (leaves boot 0) before after → after.most_bytes ≡ before.most_bytes
+going_limit boot before after (Onward is e) = left_limit boot before after (left boot 0 before after e)
+going_limit boot before after (PlayEnded more is same) = ap (λ (p : Play). p.most_bytes) (sym same)
+
+smc_limit : (boot : Booted) (regs : Regs) (standing : Standing) (after : Play) → after_smc boot regs standing ≡ Some after
+    → after.most_bytes ≡ 2 ^ 28
+smc_limit boot regs standing after e =
+    option_and_then_some (unless_refused (leaves boot 0)) (enters boot (play_of standing) (visit_with regs)) after e
+    (λ (between : Play) there onward.
+    going_limit boot between after (play_goes_on (leaves boot 0) between after onward)
+    ∙ entered_limit boot (visit_with regs) (play_of standing) between
+    (entered boot (visit_with regs) (play_of standing) between there))
+
 -- an SMC, behind which the call goes on
 module _ (boot : Booted) (regs : Regs) (asked : Standing) (others : List (List ℕ)) (lines : List Line) (came : Came)
     (onward : Play → Option Came)
@@ -210,10 +236,10 @@ module _ (boot : Booted) (regs : Regs) (asked : Standing) (others : List (List �
     → Traced boot (standing_after play asked.storage) others more came) where
   by_refusal : (play : Play) (more : List Line)
       → after_item boot (item_of regs) (beside asked others lines) ≡ Some (with_others others more play)
-      → (refused : Option ℕ) → play.refused ≡ refused
+      → play.most_bytes ≡ 2 ^ 28 → (refused : Option ℕ) → play.refused ≡ refused
       → option_map_or (λ bytes. Some (Stopped bytes play.history)) refused (onward play) ≡ Some came
       → Traced boot asked others lines came
-  by_refusal play more there (Some bytes) is e =
+  by_refusal play more there limit (Some bytes) is e =
       let same : Stopped bytes play.history ≡ came = cc in
       let last : after_items boot (item_of regs ∷ []) (beside asked others lines) ≡ Some (with_others others more play) =
       ap (λ (o : Option Play). option_and_then (λ next. Some next) o) there in
@@ -222,11 +248,12 @@ module _ (boot : Booted) (regs : Regs) (asked : Standing) (others : List (List �
         of_client = All-cons IsOfClient (item_of regs) [] (refl, refl) (All-nil IsOfClient);
         makes = subst (Makes boot (item_of regs ∷ []) asked others lines) same (with_others others more play, last, refl);
       }
-  by_refusal play more there None is e =
+  by_refusal play more there limit None is e =
       let traced = goes play more e in
       let standing = standing_after play asked.storage in
       let stands : with_others others more play ≡ beside standing others more =
-      ap (λ (refused : Option ℕ). record (with_others others more play) { refused = refused }) is in
+      ap (λ (refused : Option ℕ). record (with_others others more play) { refused = refused }) is
+      ∙ ap (λ (most : ℕ). record (beside standing others more) { most_bytes = most }) limit in
       let first : after_items boot (item_of regs ∷ traced.items) (beside asked others lines)
       ≡ after_items boot traced.items (beside standing others more) =
       ap (λ (o : Option Play). option_and_then (λ next. after_items boot traced.items next) o)
@@ -242,7 +269,7 @@ module _ (boot : Booted) (regs : Regs) (asked : Standing) (others : List (List �
       option_and_then_some (unless_full onward) (after_smc boot regs asked) came e
       (λ (play : Play) there on.
       let smc = smc_beside boot regs asked others lines play there in
-      by_refusal play smc.0 smc.1 play.refused refl on)
+      by_refusal play smc.0 smc.1 (smc_limit boot regs asked play there) play.refused refl on)
 
 -- and what is written before it
 writes_traced : (boot : Booted) (standing : Standing) (made : Prepared) (others : List (List ℕ)) (lines : List Line) (came : Came)

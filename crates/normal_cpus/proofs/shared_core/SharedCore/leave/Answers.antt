@@ -37,10 +37,10 @@ returns-clause-goes g c =
       now_own = search rules;
     } in
     goes_out (boot_of c.args.self.now) c.args.pass.now c.give_back.new.pass core c.leave-regs.new.core c.args.ran c.args.lane.now
-    c.leave-regs.new.lane (record { regs = c.leave-regs.result; entry_at = c.args.ran.entry_at; exit_at = c.len-exit_at.result })
+    c.leave-regs.new.lane (record { regs = c.leave-regs.result; entry_at = c.args.ran.entry_at; exit_at = c.event_count-exit_at.result })
     found given c.requires.can c.leave-regs.ensures refl (search rules)
 
 pub returns-clause-outside : goal.returns-clause-outside
 returns-clause-outside g c =
     outside_after (boot_of c.args.self.now) c.args.pass.now c.give_back.new.pass c.args.ran c.args.lane.now c.leave-regs.new.lane
-    (record { regs = c.leave-regs.result; entry_at = c.args.ran.entry_at; exit_at = c.len-exit_at.result }) (returns-clause-goes g c)
+    (record { regs = c.leave-regs.result; entry_at = c.args.ran.entry_at; exit_at = c.event_count-exit_at.result }) (returns-clause-goes g c)
