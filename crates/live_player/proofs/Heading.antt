@@ -2,9 +2,9 @@
 use Rattle.std.proofs.Common.{◌≡◌, ℕ, ◌⊎◌, inl, inr, List, [], ◌∷◌, ◌++◌, Option, Some, None, refl, sym, ap, subst, ◌∙◌}
 use Rattle.live_player.specs.Header.{IsHeaderOf, boot_in}
 use Rattle.live_player.specs.declared.header.Header.{Header}
-use Rattle.live_text.specs.Statement.{with_statement}
-use Rattle.live_text.specs.declared.statement.Statement.{Statement}
-use Rattle.live_text.specs.declared.statement.Statement.TheVariants as says
+use Rattle.notify_text.specs.Statement.{with_statement}
+use Rattle.trace_text.specs.declared.statement.Statement.{Statement}
+use Rattle.trace_text.specs.declared.statement.Statement.TheVariants as says
 use Rattle.notify_text.specs.Rules.{NotifyFront}
 use Rattle.ta_isa.specs.declared.boot.App.{App}
 use Rattle.ta_isa.specs.declared.boot.Boot.{Boot}

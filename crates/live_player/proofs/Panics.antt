@@ -10,8 +10,8 @@ use Rattle.live_play.specs.Panicking.{item_between, panic_between, panic_by}
 use Rattle.live_player.specs.Panicking.{EndsIn}
 use Rattle.live_player.specs.Standing.{IsPlayedBehind}
 use Rattle.live_player.specs.declared.taken.Played.TheVariants as outcome
-use Rattle.live_text.specs.Statement.{with_statement}
-use Rattle.live_text.specs.declared.statement.Statement.TheVariants as says
+use Rattle.notify_text.specs.Statement.{with_statement}
+use Rattle.trace_text.specs.declared.statement.Statement.TheVariants as says
 use Rattle.notify_play.specs.NotifyPlay.{NotifyPlay, visit_with, with_play}
 use Rattle.notify_player.specs.Playing.{position_in}
 use Rattle.notify_player.specs.declared.player.NotifyPlayer.{NotifyPlayer}

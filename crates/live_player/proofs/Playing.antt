@@ -9,7 +9,7 @@ use Rattle.event_journal.specs.Journal.{copied_bytes}
 use Rattle.event_journal.specs.declared.event.Event.{Event}
 use Rattle.kernel_model.specs.Application.{Booted, Native, booted}
 use Rattle.kernel_state.specs.Meaning.{events_of}
-use Rattle.live_play.specs.Answer.{Platform, platform, play_at}
+use Rattle.live_play.specs.Answer.{Platform, platform_within, play_at}
 use Rattle.live_play.proofs.Effects.{AreOrderly}
 use Rattle.live_play.proofs.Steps.{AreWithin}
 use Rattle.live_play.proofs.Talking.{item_steps, more-played, printed_by, refused_by, signal_steps}
@@ -18,9 +18,9 @@ use Rattle.live_player.specs.Taking.{IsNext, PlaysOn}
 use Rattle.live_player.specs.declared.taken.Taken.TheVariants as taken
 use Rattle.live_player.proofs.Answering.{answers-done, answers-full}
 use Rattle.live_player.proofs.Walking.{last_sound, last_turn, lines_stand}
-use Rattle.live_text.specs.Scene.{IsEmpty}
-use Rattle.live_text.specs.Statement.{with_statement}
-use Rattle.live_text.specs.declared.statement.Statement.TheVariants as says
+use Rattle.notify_text.specs.Statement.{IsEmpty}
+use Rattle.notify_text.specs.Statement.{with_statement}
+use Rattle.trace_text.specs.declared.statement.Statement.TheVariants as says
 use Rattle.notif.specs.Desk.{DeskState, IsDeskOf}
 use Rattle.notif.specs.History as desk
 use Rattle.notif.specs.Laws.{DesksKeepTheirDrivers}
@@ -66,9 +66,9 @@ orderly on lines inside =
 abbrev pub copied_by : Option NotifyPlay → ℕ
 copied_by o = option_map_or (λ (told : NotifyPlay). copied_bytes told.play.history) o 0
 
-module _ (natives : List Native) (drivers : Drivers) (lines : NotifyFront) where
+module _ (most : ℕ) (natives : List Native) (drivers : Drivers) (lines : NotifyFront) where
   abbrev pub on : Platform
-  on = platform natives drivers
+  on = platform_within most natives drivers
 
   -- ---- an item
 
@@ -96,7 +96,7 @@ module _ (natives : List Native) (drivers : Drivers) (lines : NotifyFront) where
       (recursion_from_All (IsSoundItem (cpus_of lines.trace.boot)) (with_item i).trace.items next.next.sound.items)) in
       let can : IsTrue (can_come (inside_after lines.trace.items) i) =
       last_turn outside lines.trace.items i next.next.sound.in_turn in
-      let there = lines_stand natives drivers lines p.boot p.told p.there p.boots next.within.sound p.play
+      let there = lines_stand most natives drivers lines p.boot p.told p.there p.boots next.within.sound p.play
       p.stands.at.machine.goes_on in
       can_take kernel p.told.play player.player.machine i stand few p.stands.at.machine
       (ready kernel drivers p.boots few i (inside_after lines.trace.items) p.told there sound can) sound

@@ -1,17 +1,21 @@
 -- A stage behind one line more.
-use Rattle.std.proofs.Common.{◌≡◌, ℕ, ◌≤◌, ◌⊎◌, inl, inr, true, List, [], ◌∷◌, ◌++◌, length, Option, Some, None, refl, sym, ap, subst, ◌∙◌, arith}
+use Rattle.std.proofs.Common.{◌≡◌, ℕ, ◌^◌, ◌≤◌, ◌⊎◌, inl, inr, Bool, true, List, [], ◌∷◌, ◌++◌, length, Option, Some, None, refl, sym, ap, subst, ◌∙◌, arith}
 use Rattle.std.specs.Prelude.{All, IfNone, IfOk, IfSome, OnOk, Result, Ok, Err, is_some}
 use Rattle.std.specs.List.{AllByRecursion}
 use Rattle.std.proofs.lemmas.List.{length-append}
 use Rattle.std.proofs.lemmas.List.Elements.{All-from_recursion, recursion_from_All}
 use Rattle.base.specs.Zeros.{zeros}
 use Rattle.base.specs.declared.no_memory.NoMemory.{NoMemory}
-use Rattle.kernel_model.specs.Application.{IsBooted, Native, booted}
+use Rattle.kernel_model.specs.Application.{Booted, IsBooted, Native, booted}
 use Rattle.kernel_model.proofs.Parts.{some_of}
-use Rattle.live_play.specs.Answer.{Platform, answer_between, platform, play_at, refused_at, uuids_in}
+use Rattle.kernel_state.specs.Meaning.{booted_of, terms_of}
+use Rattle.kernel_state.specs.declared.kernel_core.Core.{Core}
+use Rattle.kernel_state.specs.declared.terms.Terms.{Terms}
+use Rattle.live_play.specs.Answer.{Platform, answer_between, platform_within, play_at, refused_at, uuids_in}
+use Rattle.live_play.specs.Showing.{within}
 use Rattle.live_play.proofs.Effects.{IsHeader}
 use Rattle.live_play.proofs.Talking.{no_steps, printed_by, quiet, refused_by, start, with_boot}
-use Rattle.live_player.specs.Header.{IsHeaderOf, boot_in}
+use Rattle.live_player.specs.Header.{IsHeaderOf, boot_in, terms_where}
 use Rattle.live_player.specs.Panicking.{EndsIn, taken_as}
 use Rattle.live_player.specs.Standing.{CanBegin, IsOpen, IsPlayedBehind, StageAt}
 use Rattle.live_player.specs.Taking.{Answers, IsNext, IsPlaced, PlaysOn, StagePlays, counted, played}
@@ -25,10 +29,10 @@ use Rattle.live_player.specs.declared.taken.Taken.TheVariants as taken
 use Rattle.live_player.proofs.Answering.{answers-nothing}
 use Rattle.live_player.proofs.Panics.{no_panic}
 use Rattle.live_player.proofs.Playing.{signal_done, signal_played}
-use Rattle.live_text.specs.Scene.{HasItsBoot, IsEmpty}
-use Rattle.live_text.specs.Statement.{with_statement}
-use Rattle.live_text.specs.declared.statement.Statement.{Statement}
-use Rattle.live_text.specs.declared.statement.Statement.TheVariants as says
+use Rattle.notify_text.specs.Statement.{HasItsBoot, IsEmpty}
+use Rattle.notify_text.specs.Statement.{with_statement}
+use Rattle.trace_text.specs.declared.statement.Statement.{Statement}
+use Rattle.trace_text.specs.declared.statement.Statement.TheVariants as says
 use Rattle.notif.specs.History as desk
 use Rattle.notify_play.specs.NotifyPlay.{Drivers, after_steps, first_notify_play}
 use Rattle.notify_player.specs.Playing.{IsPlayedTo}
@@ -37,7 +41,7 @@ use Rattle.notify_text.specs.Rules.{NotifyFront}
 use Rattle.notify_text.specs.Sound.{IsSoundSignal}
 use Rattle.notify_text.specs.Steps.{Step}
 use Rattle.notify_text.specs.declared.notify_trace.Signal.{Signal}
-use Rattle.play_model.specs.Play.{first_play}
+use Rattle.play_model.specs.Play.{first_play_within}
 use Rattle.ta_isa.specs.declared.boot.App.{App}
 use Rattle.ta_isa.specs.declared.boot.Boot.{Boot}
 use Rattle.trace_text.specs.Sound.{IsSoundBoot}
@@ -78,29 +82,37 @@ heads on before after text was is_open =
 
 -- ---- a core is booted
 
-pub boot_there : (natives : List Native) (drivers : Drivers) (lines : NotifyFront) (header : Header)
-    → CanBegin (platform natives drivers) lines header → (boot : Boot) × (boot_in header ≡ Some boot) × (lines.trace.boot ≡ Some boot)
-boot_there natives drivers lines header can =
+pub boot_there : (most : ℕ) (natives : List Native) (drivers : Drivers) (lines : NotifyFront) (header : Header)
+    → CanBegin (platform_within most natives drivers) lines header → (boot : Boot) × (boot_in header ≡ Some boot) × (lines.trace.boot ≡ Some boot)
+boot_there most natives drivers lines header can =
     let there = some_of lines.trace.boot can.boots in
     (there.0, can.header_is.boot ∙ there.1, there.1)
 
-first_behind : (natives : List Native) (drivers : Drivers) (lines : NotifyFront) (header : Header) (boot : Boot)
-    (fills : List Fill) (player : NotifyPlayer) → CanBegin (platform natives drivers) lines header → boot_in header ≡ Some boot
+-- a core's terms are the header's
+first_on : (most natives_most : ℕ) → natives_most ≡ most → (boot : Booted) (drivers : Drivers) (fills : List Fill) (player : NotifyPlayer)
+    → IsPlayedTo boot drivers (first_notify_play boot (first_play_within natives_most (zeros 0x400000) boot fills)) player
+    → IsPlayedTo boot drivers (first_notify_play boot (first_play_within most (zeros 0x400000) boot fills)) player
+first_on most natives_most same boot drivers fills player stands =
+    subst (λ (n : ℕ). IsPlayedTo boot drivers (first_notify_play boot (first_play_within n (zeros 0x400000) boot fills)) player)
+    same stands
+
+first_behind : (most : ℕ) (natives : List Native) (drivers : Drivers) (lines : NotifyFront) (header : Header) (boot : Boot)
+    (fills : List Fill) (player : NotifyPlayer) → CanBegin (platform_within most natives drivers) lines header → boot_in header ≡ Some boot
     → fills ≡ header.fills.items → IsBooted (booted boot natives)
     → IsPlayedTo (booted boot natives) drivers (first_notify_play (booted boot natives)
-    (first_play (zeros 0x400000) (booted boot natives) fills)) player
-    → IsPlayedBehind (platform natives drivers) lines player
-first_behind natives drivers lines header boot fills player can is filled boots stands =
+    (first_play_within most (zeros 0x400000) (booted boot natives) fills)) player
+    → IsPlayedBehind (platform_within most natives drivers) lines player
+first_behind most natives drivers lines header boot fills player can is filled boots stands =
     let there : lines.trace.boot ≡ Some boot = sym can.header_is.boot ∙ is in
     record {
       boot = boot;
       there = there;
       boots = boots;
-      told = start (platform natives drivers) boot lines;
-      play = begun (platform natives drivers) boot lines there can.open_there;
+      told = start (platform_within most natives drivers) boot lines;
+      play = begun (platform_within most natives drivers) boot lines there can.open_there;
       stands =
           subst (λ (fs : List Fill). IsPlayedTo (booted boot natives) drivers (first_notify_play (booted boot natives)
-          (first_play (zeros 0x400000) (booted boot natives) fs)) player)
+          (first_play_within most (zeros 0x400000) (booted boot natives) fs)) player)
           (filled ∙ can.header_is.fills) stands;
     }
 
@@ -111,16 +123,21 @@ boot_sound on lines header boot can is =
     let P : Option Boot → Type 0 = λ o. IfSome o (IsSoundBoot (uuids_in on)) in
     subst P (sym can.header_is.boot ∙ is) can.within.sound.boot
 
--- where memory was there for it
-pub first_ok : (natives : List Native) (drivers : Drivers) (lines : NotifyFront) (header : Header) (boot : Boot)
-    (fills : List Fill) (result : Result NotifyPlayer NoMemory) → CanBegin (platform natives drivers) lines header
-    → boot_in header ≡ Some boot → fills ≡ header.fills.items → IfOk result (λ player. IsBooted (booted boot natives))
-    → IfOk result (λ player. IsPlayedTo (booted boot natives) drivers (first_notify_play (booted boot natives)
-    (first_play (zeros 0x400000) (booted boot natives) fills)) player)
-    → IfOk result (IsPlayedBehind (platform natives drivers) lines)
-first_ok natives drivers lines header boot fills (Ok player) can is filled boots stands =
-    first_behind natives drivers lines header boot fills player can is filled boots stands
-first_ok natives drivers lines header boot fills (Err e) can is filled boots stands = tt
+-- where memory was there for it: by a core of the header's boot, on its terms
+pub first_ok : (most : ℕ) (natives : List Native) (drivers : Drivers) (lines : NotifyFront) (header : Header) (boot : Boot)
+    (core : Core) (fills : List Fill) (result : Result NotifyPlayer NoMemory)
+    → CanBegin (platform_within most natives drivers) lines header → boot_in header ≡ Some boot → fills ≡ header.fills.items
+    → IsBooted (booted boot natives) → booted_of core ≡ booted boot natives → terms_of core ≡ terms_where header.is_history_off
+    → IfOk result (λ player. IsPlayedTo (booted_of core) drivers (first_notify_play (booted_of core)
+    (first_play_within (terms_of core).most (zeros 0x400000) (booted_of core) fills)) player)
+    → IfOk result (IsPlayedBehind (platform_within most natives drivers) lines)
+first_ok most natives drivers lines header boot core fills (Ok player) can is filled boots same terms stands =
+    let P : Booted → Type 0 = λ b. IsPlayedTo b drivers (first_notify_play b
+    (first_play_within (terms_of core).most (zeros 0x400000) b fills)) player in
+    first_behind most natives drivers lines header boot fills player can is filled boots
+    (first_on most (terms_of core).most (ap (λ (t : Terms). t.most) terms ∙ can.most) (booted boot natives) drivers fills player
+    (subst P same stands))
+first_ok most natives drivers lines header boot core fills (Err e) can is filled boots same terms stands = tt
 
 -- behind an item or a signal there is a boot
 pub boot_by : (lines : NotifyFront) (boot : Option Boot) → lines.trace.boot ≡ boot → HasItsBoot lines → (IsOpen lines → ⊥)
@@ -132,15 +149,17 @@ boot_by lines None there has closed =
 boot_by lines (Some boot) there has closed = ap is_some there
 
 pub can_begin : (on : Platform) (lines : NotifyFront) (said : Statement) (header : Header)
-    → IsHeaderOf header lines → IsOpen lines → IsNext on lines said → (IsOpen (with_statement lines said) → ⊥)
-    → (with_statement lines said).trace.boot ≡ lines.trace.boot → CanBegin on lines header
-can_begin on lines said header is is_open next closed same = record {
+    → IsHeaderOf header lines → IsOpen lines → (terms_where header.is_history_off).most ≡ on.most_bytes → IsNext on lines said
+    → (IsOpen (with_statement lines said) → ⊥) → (with_statement lines said).trace.boot ≡ lines.trace.boot
+    → CanBegin on lines header
+can_begin on lines said header is is_open most next closed same = record {
   header_is = is;
   open_there = is_open;
   within = next.within;
   boots =
       subst (λ (o : Option Boot). is_some o ≡ true) same
       (boot_by (with_statement lines said) (with_statement lines said).trace.boot refl next.next.sound.no_boot closed);
+  most = most;
 }
 
 -- ---- a stage
@@ -172,17 +191,17 @@ pub refused_plays : (on : Platform) (lines : NotifyFront) (i : Item) (copied : �
 refused_plays on lines i copied player now old new p at = record { answers = p.answers; stands = at }
 
 -- a core that was signalled
-pub core_signal : (natives : List Native) (drivers : Drivers) (lines : NotifyFront) (value : ℕ) (before after : NotifyPlayer)
-    (text : List ℕ) → (p : IsPlayedBehind (platform natives drivers) lines before)
+pub core_signal : (most : ℕ) (natives : List Native) (drivers : Drivers) (lines : NotifyFront) (value : ℕ) (before after : NotifyPlayer)
+    (text : List ℕ) → (p : IsPlayedBehind (platform_within most natives drivers) lines before)
     → IsPlayedTo (booted p.boot natives) drivers (record p.told { calls = desk.Signal value ∷ p.told.calls }) after
-    → StagePlays (platform natives drivers) lines (says.Signal value) taken.Done (stage.Core after) text text
-core_signal natives drivers lines value before after text p stands =
-    let is = signal_played natives drivers lines value before p in
+    → StagePlays (platform_within most natives drivers) lines (says.Signal value) taken.Done (stage.Core after) text text
+core_signal most natives drivers lines value before after text p stands =
+    let is = signal_played most natives drivers lines value before p in
     record {
       answers =
-          answers-nothing (platform natives drivers) lines (with_statement lines (says.Signal value)) text
+          answers-nothing (platform_within most natives drivers) lines (with_statement lines (says.Signal value)) text
           (ap refused_by is ∙ stands.at.machine.goes_on) (ap printed_by is ∙ sym (ap printed_by p.play));
-      stands = (signal_done natives drivers lines value before after p stands, closed_signal lines value);
+      stands = (signal_done most natives drivers lines value before after p stands, closed_signal lines value);
     }
 
 -- its value is one that the hardware signals
@@ -283,22 +302,27 @@ on_ok : {A E P Q : Type 0} (result : Result A E) → (P → Q) → OnOk result P
 on_ok (Ok x) then p = then p
 on_ok (Err e) then p = tt
 
+most_stays : (on : Platform) (old new : Header) → new.is_history_off ≡ old.is_history_off
+    → (terms_where old.is_history_off).most ≡ on.most_bytes → (terms_where new.is_history_off).most ≡ on.most_bytes
+most_stays on old new same most = ap (λ (off : Bool). (terms_where off).most) same ∙ most
+
 pub header_added : (on : Platform) (lines : NotifyFront) (said : Statement) (old new : Header)
     (result : Result (Unit {0}) NoMemory)
     → ((before : NotifyFront) → IsHeaderOf old before → OnOk result (IsHeaderOf new (with_statement before said)))
-    → StageAt on (played lines said) (stage.Header old)
+    → new.is_history_off ≡ old.is_history_off → StageAt on (played lines said) (stage.Header old)
     → OnOk result (StageAt on (with_statement lines said) (stage.Header new))
-header_added on lines says.Blank old new result adds at = on_ok result (λ is. (is, at.1)) (adds lines at.0)
-header_added on lines (says.Boot size) old new result adds at =
-    on_ok result (λ is. (is, record { items = at.1.items; signals = at.1.signals })) (adds lines at.0)
-header_added on lines (says.App app) old new result adds at =
-    on_ok result (λ is. (is, record { items = at.1.items; signals = at.1.signals })) (adds lines at.0)
-header_added on lines (says.Fill fill) old new result adds at =
-    on_ok result (λ is. (is, record { items = at.1.items; signals = at.1.signals })) (adds lines at.0)
-header_added on lines (says.Key key) old new result adds at =
-    on_ok result (λ is. (is, record { items = at.1.items; signals = at.1.signals })) (adds lines at.0)
-header_added on lines (says.Item i) old new result adds at = absurd (closed_item lines i at.1)
-header_added on lines (says.Signal value) old new result adds at = absurd (closed_signal lines value at.1)
+header_added on lines says.Blank old new result adds same at =
+    on_ok result (λ is. (is, at.1, most_stays on old new same at.2)) (adds lines at.0)
+header_added on lines (says.Boot size) old new result adds same at =
+    on_ok result (λ is. (is, record { items = at.1.items; signals = at.1.signals }, most_stays on old new same at.2)) (adds lines at.0)
+header_added on lines (says.App app) old new result adds same at =
+    on_ok result (λ is. (is, record { items = at.1.items; signals = at.1.signals }, most_stays on old new same at.2)) (adds lines at.0)
+header_added on lines (says.Fill fill) old new result adds same at =
+    on_ok result (λ is. (is, record { items = at.1.items; signals = at.1.signals }, most_stays on old new same at.2)) (adds lines at.0)
+header_added on lines (says.Key key) old new result adds same at =
+    on_ok result (λ is. (is, record { items = at.1.items; signals = at.1.signals }, most_stays on old new same at.2)) (adds lines at.0)
+header_added on lines (says.Item i) old new result adds same at = absurd (closed_item lines i at.1)
+header_added on lines (says.Signal value) old new result adds same at = absurd (closed_signal lines value at.1)
 
 -- a core has played it before
 pub core_added : (on : Platform) (lines : NotifyFront) (said : Statement) (player : NotifyPlayer) → IsPlaced lines said
@@ -310,3 +334,12 @@ core_added on lines (says.Fill fill) player placed at = absurd (at.1 placed)
 core_added on lines (says.Key key) player placed at = absurd (at.1 placed)
 core_added on lines (says.Item i) player placed at = at
 core_added on lines (says.Signal value) player placed at = at
+
+-- ---- history off
+
+-- of the lines of a header
+pub forgotten : (on : Platform) (lines : NotifyFront) (old new : Header) → new ≡ record old { is_history_off = true }
+    → StageAt on lines (stage.Header old) → StageAt (within on (2 ^ 63)) lines (stage.Header new)
+forgotten on lines old new is at =
+    subst (λ (header : Header). StageAt (within on (2 ^ 63)) lines (stage.Header header)) (sym is)
+    (record { boot = at.0.boot; fills = at.0.fills }, at.1, refl)

@@ -7,8 +7,9 @@ use Rattle.std.proofs.lemmas.List.Elements.{recursion_from_All}
 use Rattle.std.proofs.lemmas.Option.{option_and_then_some}
 use Rattle.base.specs.Zeros.{zeros}
 use Rattle.kernel_model.specs.Application.{Booted, IsBooted, Native, booted}
-use Rattle.live_play.specs.Answer.{platform, play_at, uuids_in}
+use Rattle.live_play.specs.Answer.{platform_within, play_at, uuids_in}
 use Rattle.live_play.proofs.Talking.{with_boot}
+use Rattle.live_player.specs.Standing.{keeping}
 use Rattle.live_text.specs.Sound.{AreSound}
 use Rattle.notify_play.specs.NotifyPlay.{Drivers, NotifyPlay, after_item, after_steps, first_notify_play}
 use Rattle.notify_player.specs.Signalling.{signalled_by}
@@ -17,13 +18,14 @@ use Rattle.notify_player.proofs.Stepping.{ended-steps, item-step, signalled-play
 use Rattle.notify_text.specs.Rules.{NotifyFront}
 use Rattle.notify_text.specs.Steps.{Step, Takes, steps_from}
 use Rattle.notify_text.specs.declared.notify_trace.Signal.{Signal}
-use Rattle.play_model.specs.Play.{Play, first_play}
+use Rattle.play_model.specs.Play.{Play, first_play_within}
 use Rattle.play_model.proofs.Coming.{Stands, few_cpus, first_stands}
 use Rattle.play_model.proofs.WholeLanes.{zeros-whole}
 use Rattle.ta_isa.specs.declared.boot.Boot.{Boot}
 use Rattle.trace_text.specs.Limits.{cpus_of, inside_after, moved, outside}
 use Rattle.trace_text.specs.Sound.{ComeInTurn, IsSoundItem, can_come}
 use Rattle.trace_text.specs.declared.item.Item.{Item}
+use Rattle.trace_text.specs.declared.trace.Fill.{Fill}
 
 -- ---- steps
 
@@ -71,21 +73,28 @@ walk boot drivers at (i ∷ items) signals inside before after boots sound turn 
 
 -- ---- lines
 
+-- before the first line, however much entries may read
+first_stands_within : (most : ℕ) (boot : Booted) (fills : List Fill)
+    → Stands boot outside (first_play_within most (zeros 0x400000) boot fills)
+first_stands_within most boot fills =
+    let stands = first_stands (zeros 0x400000) boot fills zeros-whole in
+    record { comes = stands.comes; eight = stands.eight; tells = stands.tells; lanes = stands.lanes }
+
 -- each processor is inside in the play where it is by the lines
-pub lines_stand : (natives : List Native) (drivers : Drivers) (lines : NotifyFront) (boot : Boot) (told : NotifyPlay)
+pub lines_stand : (most : ℕ) (natives : List Native) (drivers : Drivers) (lines : NotifyFront) (boot : Boot) (told : NotifyPlay)
     → lines.trace.boot ≡ Some boot → IsBooted (booted boot natives)
-    → AreSound (uuids_in (platform natives drivers)) lines → play_at (platform natives drivers) lines ≡ Some told
+    → AreSound (uuids_in (platform_within most natives drivers)) (keeping lines) → play_at (platform_within most natives drivers) lines ≡ Some told
     → told.play.refused ≡ None → Stands (booted boot natives) (inside_after lines.trace.items) told.play
 unfolding inside_after
-lines_stand natives drivers lines boot told there boots sound play going =
+lines_stand most natives drivers lines boot told there boots sound play going =
     let on : Booted = booted boot natives in
     let items : AllByRecursion (IsSoundItem (cpus_of lines.trace.boot)) lines.trace.items =
     recursion_from_All (IsSoundItem (cpus_of lines.trace.boot)) lines.trace.items sound.items in
     walk on drivers 0 lines.trace.items lines.signals outside
-    (first_notify_play on (first_play (zeros 0x400000) on lines.trace.fills)) told boots
+    (first_notify_play on (first_play_within most (zeros 0x400000) on lines.trace.fills)) told boots
     (subst (λ (b : Option Boot). AllByRecursion (IsSoundItem (cpus_of b)) lines.trace.items) there items)
-    sound.in_turn refl (first_stands (zeros 0x400000) on lines.trace.fills zeros-whole)
-    (sym (with_boot (platform natives drivers) boot lines there) ∙ play) going
+    sound.in_turn refl (first_stands_within most on lines.trace.fills)
+    (sym (with_boot (platform_within most natives drivers) boot lines there) ∙ play) going
 
 -- ---- the next item
 

@@ -1,5 +1,5 @@
 -- A line that is taken where exits are watched.
-use Rattle.std.proofs.Common.{◌≡◌, ℕ, ◌<◌, List, [], ◌∷◌, ◌++◌, length, drop, Option, Some, None, refl, sym, ap, subst, ◌∙◌, arith, append_assoc}
+use Rattle.std.proofs.Common.{◌≡◌, ℕ, ◌<◌, List, [], ◌∷◌, ◌++◌, length, drop, Option, Some, None, refl, sym, ap, subst, ◌∙◌, arith, append_assoc, append-nil}
 use Rattle.std.specs.Prelude.{Err, slice_index_or}
 use Rattle.std.specs.List.{flat_map}
 use Rattle.std.specs.Option.{option_and_then, option_map_or}
@@ -13,12 +13,12 @@ use Rattle.core_machine.proofs.Lanes.{all_bytes}
 use Rattle.kernel_model.specs.Application.{Booted, Native, booted}
 use Rattle.kernel_model.proofs.Parts.{some_of}
 use Rattle.line_port.specs.History as heard
-use Rattle.live_play.specs.Answer.{Answer, Platform, after_heard, answer_between, answer_to_line, platform, play_at, printed_at, refused_at}
+use Rattle.live_play.specs.Answer.{Answer, Platform, after_heard, answer_between, platform_within, play_at, printed_at, refused_at, without_lines}
 use Rattle.live_play.specs.Answer as ends
 use Rattle.live_play.specs.Changes.{changes, text_of_changes}
 use Rattle.live_play.specs.Returns.{returns_in}
 use Rattle.live_play.specs.Panicking.{panic_between, panic_line}
-use Rattle.live_play.specs.Showing.{cpu_out_by, lane_at}
+use Rattle.live_play.specs.Showing.{cpu_out_by, lane_at, lines_after, platform_at, watched_line}
 use Rattle.live_play.specs.State.{text_if}
 use Rattle.live_play.proofs.Outgoing.{lines-done, none_returned, one_returned, step_on}
 use Rattle.live_play.proofs.Talking.{answer_unless, item_steps, more-played, quiet, signal_steps, start}
@@ -26,7 +26,8 @@ use Rattle.live_play.proofs.Watched.{unwatched-lines, watched-lines}
 use Rattle.live_player.specs.Asking.{AnswersWatched, CanWatch, TakesWatched, Watches, WatchesOn, cpu_going_out}
 use Rattle.live_player.specs.Panicking.{EndsIn}
 use Rattle.live_player.specs.Standing.{HasCome, IsOpen, IsPlayedBehind, IsWithin, StageAt, StandsAt}
-use Rattle.live_player.specs.Taking.{Answers, IsNext, Judges, TakesOn, counted}
+use Rattle.live_player.specs.Taking.{Answers, IsNext, Judges, TakesOn, answer_behind, counted}
+use Rattle.live_text.specs.Rules.{LiveFront}
 use Rattle.live_player.specs.declared.header.Header.{Header}
 use Rattle.live_player.specs.declared.player.LivePlayer.{LivePlayer}
 use Rattle.live_player.specs.declared.stage.Stage.{Stage}
@@ -36,11 +37,11 @@ use Rattle.live_player.specs.declared.taken.Taken.{Taken}
 use Rattle.live_player.specs.declared.taken.Taken.TheVariants as taken
 use Rattle.live_player.proofs.Playing.{orderly}
 use Rattle.live_player.proofs.Staging.{begun, boot_by, closed_item, closed_signal, header_of, stage_going}
-use Rattle.live_player.proofs.Taking.{Says, answer_said, behind_said}
+use Rattle.live_player.proofs.Taking.{Says, answer_said, behind_said, told_said}
 use Rattle.live_player.proofs.Walking.{last_sound}
-use Rattle.live_text.specs.Statement.{with_statement}
-use Rattle.live_text.specs.declared.statement.Statement.{Statement}
-use Rattle.live_text.specs.declared.statement.Statement.TheVariants as says
+use Rattle.notify_text.specs.Statement.{with_statement}
+use Rattle.trace_text.specs.declared.statement.Statement.{Statement}
+use Rattle.trace_text.specs.declared.statement.Statement.TheVariants as says
 use Rattle.notify_play.specs.NotifyPlay.{Drivers, NotifyPlay}
 use Rattle.notify_player.specs.declared.player.NotifyPlayer.{NotifyPlayer}
 use Rattle.notify_text.specs.Rules.{NotifyFront}
@@ -129,22 +130,22 @@ cpu_there on lines i cpu out next =
     (recursion_from_All (IsSoundItem cpus) (lines.trace.items ++ i ∷ []) next.next.sound.items)) out
 
 -- before it
-pub can_watch : (natives : List Native) (drivers : Drivers) (lines : NotifyFront) (said : Statement) (cpu : ℕ) (now : Stage)
-    → cpu_going_out said ≡ Some cpu → IsNext (platform natives drivers) lines said
-    → StageAt (platform natives drivers) lines now → CanWatch (platform natives drivers) lines cpu now
-can_watch natives drivers lines said cpu now out next at =
-    let on : Platform = platform natives drivers in
+pub can_watch : (most : ℕ) (natives : List Native) (drivers : Drivers) (lines : NotifyFront) (said : Statement) (cpu : ℕ) (now : Stage)
+    → cpu_going_out said ≡ Some cpu → IsNext (platform_within most natives drivers) lines said
+    → StageAt (platform_within most natives drivers) lines now → CanWatch (platform_within most natives drivers) lines cpu now
+can_watch most natives drivers lines said cpu now out next at =
+    let on : Platform = platform_within most natives drivers in
     let goes = going_out said cpu out in
     let placed : IsNext on lines (says.Item goes.0) = subst (IsNext on lines) goes.1 next in
     record { ram = refl; within = next.within; stage_at = at; there = cpu_there on lines goes.0 cpu goes.2 placed }
 
 -- and behind it
-pub can_still_watch : (natives : List Native) (drivers : Drivers) (lines : NotifyFront) (said : Statement) (cpu : ℕ) (now : Stage)
-    → cpu_going_out said ≡ Some cpu → IsNext (platform natives drivers) lines said
-    → StageAt (platform natives drivers) (with_statement lines said) now
-    → CanWatch (platform natives drivers) (with_statement lines said) cpu now
-can_still_watch natives drivers lines said cpu now out next at =
-    let on : Platform = platform natives drivers in
+pub can_still_watch : (most : ℕ) (natives : List Native) (drivers : Drivers) (lines : NotifyFront) (said : Statement) (cpu : ℕ) (now : Stage)
+    → cpu_going_out said ≡ Some cpu → IsNext (platform_within most natives drivers) lines said
+    → StageAt (platform_within most natives drivers) (with_statement lines said) now
+    → CanWatch (platform_within most natives drivers) (with_statement lines said) cpu now
+can_still_watch most natives drivers lines said cpu now out next at =
+    let on : Platform = platform_within most natives drivers in
     let goes = going_out said cpu out in
     let placed : IsNext on lines (says.Item goes.0) = subst (IsNext on lines) goes.1 next in
     let same : (with_statement lines said).trace.boot ≡ lines.trace.boot =
@@ -253,31 +254,38 @@ unwatched on before after counts how old new answers none = record {
       (sym (unwatched-lines on before counts (answer_between on before after).lines none));
 }
 
-pub watches_full : (on : Platform) (lines : NotifyFront) (said : Statement) (copied : ℕ) (player : LivePlayer) (old new : List ℕ)
+pub watches_full : (on : Platform) (lines : LiveFront) (said : Statement) (copied : ℕ) (player : LivePlayer) (old new : List ℕ)
     → TakesOn on lines said (taken.Full copied) player old new → WatchesOn on lines said (taken.Full copied) player old new
 watches_full on lines said copied player old new takes =
-    let after : NotifyFront = with_statement lines said in
-    let none = ap returns_in (full_lines on lines after copied takes.answers.ending) in
-    record { answers = unwatched on lines after lines (taken.Full copied) old new takes.answers none; come = takes.come }
+    let there : Platform = platform_at on lines in
+    let after : NotifyFront = with_statement lines.told said in
+    let none = ap returns_in (full_lines there lines.told after copied takes.answers.ending) in
+    record {
+      answers = unwatched there lines.told after lines.told (taken.Full copied) old new takes.answers none;
+      come = takes.come;
+    }
 
 -- no processor goes out
-pub watches_none : (on : Platform) (lines : NotifyFront) (said : Statement) (how : Taken) (now : Stage) (player : LivePlayer)
-    (old new : List ℕ) → cpu_going_out said ≡ None → IsNext on lines said → StageAt on lines now
+pub watches_none : (on : Platform) (lines : LiveFront) (said : Statement) (how : Taken) (now : Stage) (player : LivePlayer)
+    (old new : List ℕ) → cpu_going_out said ≡ None → IsNext (platform_at on lines) lines.told said
+    → StageAt (platform_at on lines) lines.told now
     → TakesOn on lines said how player old new → WatchesOn on lines said how player old new
 watches_none on lines said taken.Done now player old new none next at takes =
-    let after : NotifyFront = with_statement lines said in
-    let printed = lines-done on lines after (done_going on lines after takes.answers.ending) in
+    let there : Platform = platform_at on lines in
+    let after : NotifyFront = with_statement lines.told said in
+    let printed = lines-done there lines.told after (done_going there lines.told after takes.answers.ending) in
     record {
       answers =
-          unwatched on lines after after taken.Done old new takes.answers
-          (ap returns_in printed ∙ none_printed on lines said now none next at);
+          unwatched there lines.told after after taken.Done old new takes.answers
+          (ap returns_in printed ∙ none_printed there lines.told said now none next at);
       come = takes.come;
     }
 watches_none on lines said (taken.Full copied) now player old new none next at takes =
     watches_full on lines said copied player old new takes
 
-pub watches_staying : (on : Platform) (lines : NotifyFront) (said : Statement) (how : Taken) (now : Stage) (player : LivePlayer)
-    (old new : List ℕ) → ((cpu : ℕ) → cpu_going_out said ≡ Some cpu → ⊥) → IsNext on lines said → StageAt on lines now
+pub watches_staying : (on : Platform) (lines : LiveFront) (said : Statement) (how : Taken) (now : Stage) (player : LivePlayer)
+    (old new : List ℕ) → ((cpu : ℕ) → cpu_going_out said ≡ Some cpu → ⊥) → IsNext (platform_at on lines) lines.told said
+    → StageAt (platform_at on lines) lines.told now
     → TakesOn on lines said how player old new → WatchesOn on lines said how player old new
 watches_staying on lines said how now player old new stays next at takes = by (cpu_going_out said) refl
   where
@@ -329,18 +337,18 @@ watched_text on before after cpu regs copy old between panicked new panic line c
           ∙ sym (watched-lines on before after lines cpu regs line));
     }
 
-pub watches_done : (on : Platform) (lines : NotifyFront) (said : Statement) (cpu : ℕ) (was : Stage) (player : LivePlayer)
-    (copy old between panicked new : List ℕ) (panic : Option ℕ) → cpu_going_out said ≡ Some cpu → IsNext on lines said
-    → StageAt on lines was → copy ≡ lane_at on lines cpu → TakesOn on lines said taken.Done player old between
-    → EndsIn on lines said (outcome.Done panic) → panicked ≡ between ++ text_if panic_line panic
-    → new ≡ panicked ++ text_of_changes cpu (changes copy (lane_at on (with_statement lines said) cpu))
+pub watches_done : (on : Platform) (lines : LiveFront) (said : Statement) (cpu : ℕ) (was : Stage) (player : LivePlayer)
+    (copy old between panicked new : List ℕ) (panic : Option ℕ) → cpu_going_out said ≡ Some cpu → IsNext (platform_at on lines) lines.told said
+    → StageAt (platform_at on lines) lines.told was → copy ≡ lane_at (platform_at on lines) lines.told cpu
+    → TakesOn on lines said taken.Done player old between → EndsIn (platform_at on lines) lines.told said (outcome.Done panic) → panicked ≡ between ++ text_if panic_line panic
+    → new ≡ panicked ++ text_of_changes cpu (changes copy (lane_at (platform_at on lines) (with_statement lines.told said) cpu))
     → WatchesOn on lines said taken.Done player old new
 watches_done on lines said cpu was player copy old between panicked new panic out next at copied takes ends told pushed =
     by said out next takes ends pushed
   where
-    by : (said : Statement) → cpu_going_out said ≡ Some cpu → IsNext on lines said
-        → TakesOn on lines said taken.Done player old between → EndsIn on lines said (outcome.Done panic)
-        → new ≡ panicked ++ text_of_changes cpu (changes copy (lane_at on (with_statement lines said) cpu))
+    by : (said : Statement) → cpu_going_out said ≡ Some cpu → IsNext (platform_at on lines) lines.told said
+        → TakesOn on lines said taken.Done player old between → EndsIn (platform_at on lines) lines.told said (outcome.Done panic)
+        → new ≡ panicked ++ text_of_changes cpu (changes copy (lane_at (platform_at on lines) (with_statement lines.told said) cpu))
         → WatchesOn on lines said taken.Done player old new
     by says.Blank out next takes ends pushed = absurd cc
     by (says.Boot size) out next takes ends pushed = absurd cc
@@ -348,10 +356,10 @@ watches_done on lines said cpu was player copy old between panicked new panic ou
     by (says.Fill fill) out next takes ends pushed = absurd cc
     by (says.Key key) out next takes ends pushed = absurd cc
     by (says.Item i) out next takes ends pushed =
-        let line = one_line on lines i cpu was player.stage out next at takes.come.stage_at takes.answers.ending in
+        let line = one_line (platform_at on lines) lines.told i cpu was player.stage out next at takes.come.stage_at takes.answers.ending in
         record {
           answers =
-              watched_text on lines (with_statement lines (says.Item i)) cpu line.0 copy old between panicked new panic line.1
+              watched_text (platform_at on lines) lines.told (with_statement lines.told (says.Item i)) cpu line.0 copy old between panicked new panic line.1
               copied takes.answers ends told pushed;
           come = takes.come;
         }
@@ -360,24 +368,40 @@ watches_done on lines said cpu was player copy old between panicked new panic ou
 -- ---- a line
 
 -- one of which nothing was read breaks a rule, or memory ran out
-pub as_watched : (on : Platform) (lines : NotifyFront) (line : List ℕ) (fault : LineFault) (player : LivePlayer) (old new : List ℕ)
+pub as_watched : (on : Platform) (lines : LiveFront) (line : List ℕ) (fault : LineFault) (player : LivePlayer) (old new : List ℕ)
     → Judges on lines line (Err fault) player old new → Watches on lines line (Err fault) player old new
 as_watched on lines line (Broken kind) player old new judged = judged
 as_watched on lines line NoRoom player old new judged = tt
 
+-- one that turns history off has no lines
+pub watches_off : (on : Platform) (lines : LiveFront) (line : List ℕ) (player : LivePlayer) (text : List ℕ)
+    → answer_behind on lines line ≡ without_lines ends.Done
+    → StandsAt on (lines_after on lines (heard.Line line)) player → TakesWatched on lines line taken.Done player text text
+watches_off on lines line player text off stands =
+    let there : Platform = platform_at on lines in
+    let counts : NotifyFront = after_heard there lines.told (heard.Line line) in
+    record {
+      answers = record {
+        ending = ap (λ (a : Answer). a.ending) off;
+        text = sym (append-nil text)
+            ∙ ap (λ (ls : List Line). text ++ flat_map (watched_line there lines.told counts) ls) (sym (ap (λ (a : Answer). a.lines) off));
+      };
+      stands = stands;
+    }
+
 -- and one that was read was taken
-pub watches : (on : Platform) (lines : NotifyFront) (line : List ℕ) (said : Statement) (how : Taken) (player : LivePlayer)
+pub watches : (on : Platform) (lines : LiveFront) (line : List ℕ) (said : Statement) (how : Taken) (player : LivePlayer)
     (old new : List ℕ) → Says on lines line said
-    → (HasCome on (after_heard on lines (heard.Line line)) player → StandsAt on (after_heard on lines (heard.Line line)) player)
+    → (HasCome on (lines_after on lines (heard.Line line)) player → StandsAt on (lines_after on lines (heard.Line line)) player)
     → WatchesOn on lines said how player old new → TakesWatched on lines line how player old new
 watches on lines line said how player old new says plays w =
-    let after : NotifyFront = with_statement lines said in
-    let counts : NotifyFront = counted how lines after in
+    let there : Platform = platform_at on lines in
+    let counts : NotifyFront = counted how lines.told (with_statement lines.told said) in
     let given = answer_said on lines line said says in
-    let behind = behind_said on lines line said how says (ap (λ (a : Answer). a.ending) given ∙ w.answers.ending) in
-    let P : NotifyFront → Type 0 = λ f. AnswersWatched on lines f (answer_to_line on lines line) how old new in
-    let Q : Answer → Type 0 = λ a. AnswersWatched on lines counts a how old new in
+    let ending = ap (λ (a : Answer). a.ending) given ∙ w.answers.ending in
+    let P : NotifyFront → Type 0 = λ f. AnswersWatched there lines.told f (answer_behind on lines line) how old new in
+    let Q : Answer → Type 0 = λ a. AnswersWatched there lines.told counts a how old new in
     record {
-      answers = subst P (sym behind) (subst Q (sym given) w.answers);
-      stands = plays (subst (λ (f : NotifyFront). HasCome on f player) (sym behind) w.come);
+      answers = subst P (sym (told_said on lines line said how says ending)) (subst Q (sym given) w.answers);
+      stands = plays (subst (λ (f : LiveFront). HasCome on f player) (sym (behind_said on lines line said how says ending)) w.come);
     }

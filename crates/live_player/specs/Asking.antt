@@ -3,16 +3,17 @@ use Rattle.std.specs.Prelude.{◌≡◌, ℕ, ◌<◌, List, ◌++◌, Option, N
 use Rattle.std.specs.List.{flat_map}
 use Rattle.base.specs.Zeros.{zeros}
 use Rattle.line_port.specs.History as heard
-use Rattle.live_play.specs.Answer.{Answer, Platform, after_heard, answer_between, answer_to_line}
-use Rattle.live_play.specs.Showing.{cpu_out_by, watched_line}
+use Rattle.live_play.specs.Answer.{Answer, Platform, after_heard, answer_between}
+use Rattle.live_play.specs.Showing.{cpu_out_by, lines_after, platform_at, watched_line}
 use Rattle.live_player.specs.Standing.{HasCome, IsWithin, StageAt, StandsAt}
-use Rattle.live_player.specs.Taking.{Breaks, counted, ending_of}
+use Rattle.live_player.specs.Taking.{Breaks, answer_behind, counted, ending_of}
 use Rattle.live_player.specs.declared.player.LivePlayer.{LivePlayer}
 use Rattle.live_player.specs.declared.stage.Stage.{Stage}
 use Rattle.live_player.specs.declared.taken.Taken.{Taken}
-use Rattle.live_text.specs.Statement.{with_statement}
-use Rattle.live_text.specs.declared.statement.Statement.{Statement}
-use Rattle.live_text.specs.declared.statement.Statement.TheVariants as says
+use Rattle.notify_text.specs.Statement.{with_statement}
+use Rattle.trace_text.specs.declared.statement.Statement.{Statement}
+use Rattle.trace_text.specs.declared.statement.Statement.TheVariants as says
+use Rattle.live_text.specs.Rules.{LiveFront, with_told}
 use Rattle.notify_text.specs.Rules.{NotifyFront}
 use Rattle.trace_text.specs.Limits.{cpus_of}
 use Rattle.trace_text.specs.declared.fault.LineFault.{LineFault}
@@ -43,20 +44,21 @@ pub record AnswersWatched (on : Platform) (before after : NotifyFront) (given : 
     pub text : new ≡ old ++ flat_map (watched_line on before after) given.lines
 
 -- what a line says was taken
-pub record WatchesOn (on : Platform) (before : NotifyFront) (said : Statement) (how : Taken) (player : LivePlayer)
+pub record WatchesOn (on : Platform) (before : LiveFront) (said : Statement) (how : Taken) (player : LivePlayer)
     (old new : List ℕ) : Type 0 where
-  pub answers : AnswersWatched on before (counted how before (with_statement before said))
-      (answer_between on before (with_statement before said)) how old new
-  pub come : HasCome on (counted how before (with_statement before said)) player
+  pub answers : AnswersWatched (platform_at on before) before.told (counted how before.told (with_statement before.told said))
+      (answer_between (platform_at on before) before.told (with_statement before.told said)) how old new
+  pub come : HasCome on (with_told before (counted how before.told (with_statement before.told said))) player
 
 -- the line was taken so
-pub record TakesWatched (on : Platform) (before : NotifyFront) (line : List ℕ) (how : Taken) (player : LivePlayer)
+pub record TakesWatched (on : Platform) (before : LiveFront) (line : List ℕ) (how : Taken) (player : LivePlayer)
     (old new : List ℕ) : Type 0 where
-  pub answers : AnswersWatched on before (after_heard on before (heard.Line line)) (answer_to_line on before line) how old new
-  pub stands : StandsAt on (after_heard on before (heard.Line line)) player
+  pub answers : AnswersWatched (platform_at on before) before.told
+      (after_heard (platform_at on before) before.told (heard.Line line)) (answer_behind on before line) how old new
+  pub stands : StandsAt on (lines_after on before (heard.Line line)) player
 
 -- by what came of the line; of want of memory nothing is said
-abbrev pub Watches : Platform → NotifyFront → List ℕ → Result Taken LineFault → LivePlayer → List ℕ → List ℕ → Type 0
+abbrev pub Watches : Platform → LiveFront → List ℕ → Result Taken LineFault → LivePlayer → List ℕ → List ℕ → Type 0
 Watches on before line (Ok how) player old new = TakesWatched on before line how player old new
 Watches on before line (Err (Broken kind)) player old new = Breaks on before line kind player old new
 Watches on before line (Err NoRoom) player old new = Unit {0}

@@ -6,8 +6,8 @@ use Rattle.live_player.specs.declared.taken.Played.{Played}
 use Rattle.live_player.specs.declared.taken.Played.TheVariants as outcome
 use Rattle.live_player.specs.declared.taken.Taken.{Taken}
 use Rattle.live_player.specs.declared.taken.Taken.TheVariants as taken
-use Rattle.live_text.specs.Statement.{with_statement}
-use Rattle.live_text.specs.declared.statement.Statement.{Statement}
+use Rattle.notify_text.specs.Statement.{with_statement}
+use Rattle.trace_text.specs.declared.statement.Statement.{Statement}
 use Rattle.notify_text.specs.Rules.{NotifyFront}
 
 -- how a line was taken that was played so

@@ -1,20 +1,23 @@
 -- How a line is taken, and what is said to it.
-use Rattle.std.specs.Prelude.{◌≡◌, ℕ, List, ◌++◌, Result, Ok, Err}
+use Rattle.std.specs.Prelude.{◌≡◌, ℕ, List, ◌++◌, Result, Ok, Err, if◌then◌else◌}
 use Rattle.std.specs.List.{flat_map}
 use Rattle.line_port.specs.History as heard
-use Rattle.live_play.specs.Answer.{Answer, Bad, Ending, Platform, after_heard, answer_between, answer_to_line, without_lines}
+use Rattle.live_play.specs.Answer.{Answer, Bad, Ending, Platform, answer_between, answer_to_line, without_lines}
 use Rattle.live_play.specs.Answer as ends
+use Rattle.live_play.specs.Showing.{history_ending, lines_after, platform_at}
 use Rattle.live_player.specs.Standing.{HasCome, IsOpen, IsPlayedBehind, IsWithin, StageAt, StandsAt}
 use Rattle.live_player.specs.declared.player.LivePlayer.{LivePlayer}
 use Rattle.live_player.specs.declared.stage.Stage.{Stage}
 use Rattle.live_player.specs.declared.taken.Taken.{Taken}
 use Rattle.live_player.specs.declared.taken.Taken.TheVariants as taken
-use Rattle.live_text.specs.Statement.{with_statement}
-use Rattle.live_text.specs.declared.statement.Statement.{Statement}
-use Rattle.live_text.specs.declared.statement.Statement.TheVariants as says
+use Rattle.notify_text.specs.Statement.{with_statement}
+use Rattle.trace_text.specs.declared.statement.Statement.{Statement}
+use Rattle.trace_text.specs.declared.statement.Statement.TheVariants as says
+use Rattle.live_text.specs.Rules.{LiveFront, is_history, with_told}
 use Rattle.notify_player.specs.declared.player.NotifyPlayer.{NotifyPlayer}
 use Rattle.notify_text.specs.Rules.{NotifyFront}
 use Rattle.play_model.specs.Line.{text_of_line}
+use Rattle.text_lines.specs.Words.{words_of}
 use Rattle.trace_text.specs.declared.fault.BadKind.{BadKind}
 use Rattle.trace_text.specs.declared.fault.LineFault.{LineFault}
 use Rattle.trace_text.specs.declared.fault.LineFault.TheVariants.{Broken, NoRoom}
@@ -36,21 +39,28 @@ counted (taken.Full copied) before after = before
 
 -- ---- a line
 
+-- the answer to one that asks nothing
+abbrev pub answer_behind : Platform → LiveFront → List ℕ → Answer
+answer_behind on before line =
+    if is_history (words_of line)
+    then without_lines (history_ending on before line)
+    else answer_to_line (platform_at on before) before.told line
+
 -- the line was taken so, behind these lines: its answer is said, and the player stands behind the lines that count then
-pub record Takes (on : Platform) (before : NotifyFront) (line : List ℕ) (how : Taken) (player : LivePlayer) (old new : List ℕ)
+pub record Takes (on : Platform) (before : LiveFront) (line : List ℕ) (how : Taken) (player : LivePlayer) (old new : List ℕ)
     : Type 0 where
-  pub answers : Answers (answer_to_line on before line) how old new
-  pub stands : StandsAt on (after_heard on before (heard.Line line)) player
+  pub answers : Answers (answer_behind on before line) how old new
+  pub stands : StandsAt on (lines_after on before (heard.Line line)) player
 
 -- it breaks this rule: that is its answer, and the player stands where it stood
-pub record Breaks (on : Platform) (before : NotifyFront) (line : List ℕ) (kind : BadKind) (player : LivePlayer)
+pub record Breaks (on : Platform) (before : LiveFront) (line : List ℕ) (kind : BadKind) (player : LivePlayer)
     (old new : List ℕ) : Type 0 where
-  pub answers : answer_to_line on before line ≡ without_lines (Bad kind)
+  pub answers : answer_behind on before line ≡ without_lines (Bad kind)
   pub text : new ≡ old
-  pub stands : StandsAt on (after_heard on before (heard.Line line)) player
+  pub stands : StandsAt on (lines_after on before (heard.Line line)) player
 
 -- by what came of the line; of want of memory nothing is said
-abbrev pub Judges : Platform → NotifyFront → List ℕ → Result Taken LineFault → LivePlayer → List ℕ → List ℕ → Type 0
+abbrev pub Judges : Platform → LiveFront → List ℕ → Result Taken LineFault → LivePlayer → List ℕ → List ℕ → Type 0
 Judges on before line (Ok how) player old new = Takes on before line how player old new
 Judges on before line (Err (Broken kind)) player old new = Breaks on before line kind player old new
 Judges on before line (Err NoRoom) player old new = Unit {0}
@@ -96,7 +106,7 @@ pub record StagePlays (on : Platform) (before : NotifyFront) (said : Statement) 
   pub stands : StageAt on (counted how before (played before said)) now
 
 -- it was taken
-pub record TakesOn (on : Platform) (before : NotifyFront) (said : Statement) (how : Taken) (player : LivePlayer)
+pub record TakesOn (on : Platform) (before : LiveFront) (said : Statement) (how : Taken) (player : LivePlayer)
     (old new : List ℕ) : Type 0 where
-  pub answers : Answers (answer_between on before (with_statement before said)) how old new
-  pub come : HasCome on (counted how before (with_statement before said)) player
+  pub answers : Answers (answer_between (platform_at on before) before.told (with_statement before.told said)) how old new
+  pub come : HasCome on (with_told before (counted how before.told (with_statement before.told said))) player

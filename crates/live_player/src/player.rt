@@ -1,23 +1,25 @@
-ghost use Rattle.std.specs.Prelude.{◌≡◌, ◌++◌, List, IfOk, OnOk, is_some, true};
+ghost use Rattle.std.specs.Prelude.{◌≡◌, ◌++◌, List, IfOk, None, OnOk, is_some, not, true};
 ghost use Rattle.kernel_model.specs.Application.{Native};
 ghost use Rattle.live_play.specs.Answer.{Platform, platform};
-ghost use Rattle.live_play.specs.Showing.{told_at};
+ghost use Rattle.live_play.specs.Showing.{platform_at, told_at};
 ghost use Rattle.live_player.specs.Panicking.{EndsIn, taken_as};
 ghost use Rattle.live_player.specs.Standing.{HasCome, StandsAt};
 ghost use Rattle.live_player.specs.Taking.{IsNext, Judges, TakesOn};
-ghost use Rattle.live_text.specs.Statement.{HasFewCpus};
+ghost use Rattle.live_text.specs.Rules.{LiveFront, no_lines, without_history};
+ghost use Rattle.live_text.specs.Scene.{IsSceneOf};
 ghost use Rattle.native_tas.specs.Table.{drivers, entries};
 ghost use Rattle.notify_play.specs.NotifyPlay.{Drivers};
-ghost use Rattle.notify_text.specs.Rules.{NotifyFront, no_lines};
+ghost use Rattle.shown_lines.specs.Asking.{CanTell};
+ghost use Rattle.trace_text.specs.Statement.{HasFewCpus};
 
 use crate::header::Header;
 use crate::stage::Stage;
 use crate::taken::{Played, Taken};
 use base::NoMemory;
-use live_text::{Question, Scene, Statement, lines_stay_sound, read_line};
+use live_text::{LiveLine, Question, Scene, lines_stay_sound, read_line};
 use native_tas::Natives;
 use std::alloc::Global;
-use trace_text::LineFault;
+use trace_text::{LineFault, Statement};
 
 /// A core in a conversation, behind the lines that count so far. It is booted at the first line behind the header.
 #[derive(Drop)]
@@ -48,18 +50,18 @@ impl LivePlayer {
         text: &mut Vec<u8>,
     ) -> Result<Played, NoMemory>
         requires few { HasFewCpus said }
-        requires next { (lines : NotifyFront)
-            × IsNext (platform (entries natives.now) (drivers natives.now)) lines said
+        requires next { (lines : LiveFront)
+            × IsNext (platform_at (platform (entries natives.now) (drivers natives.now)) lines) lines.told said
             × HasCome (platform (entries natives.now) (drivers natives.now)) lines self.old }
-        ensures takes { (lines : NotifyFront)
-            → IsNext (platform (entries natives.now) (drivers natives.now)) lines said
+        ensures takes { (lines : LiveFront)
+            → IsNext (platform_at (platform (entries natives.now) (drivers natives.now)) lines) lines.told said
             → HasCome (platform (entries natives.now) (drivers natives.now)) lines self.old
             → IfOk result (λ how. TakesOn (platform (entries natives.now) (drivers natives.now)) lines said (taken_as how)
             self.new text.old.items text.new.items) }
-        ensures panic { (lines : NotifyFront)
-            → IsNext (platform (entries natives.now) (drivers natives.now)) lines said
+        ensures panic { (lines : LiveFront)
+            → IsNext (platform_at (platform (entries natives.now) (drivers natives.now)) lines) lines.told said
             → HasCome (platform (entries natives.now) (drivers natives.now)) lines self.old
-            → IfOk result (λ how. EndsIn (platform (entries natives.now) (drivers natives.now)) lines said how) }
+            → IfOk result (λ how. EndsIn (platform_at (platform (entries natives.now) (drivers natives.now)) lines) lines.told said how) }
     {
         match self.stage.play(alloc, natives, &said, text)? {
             Played::Done(panic) => {
@@ -69,6 +71,15 @@ impl LivePlayer {
             }
             Played::Full(copied) => Ok(Played::Full(copied)),
         }
+    }
+
+    /// From here on history is off. No boot is among the lines.
+    pub(crate) fn forget(&mut self)
+        ensures { (on : Platform) (lines : LiveFront) → HasCome on lines self.old → lines.told.trace.boot ≡ None
+            → HasCome on (without_history lines) self.new }
+    {
+        self.scene.forget();
+        self.stage.forget();
     }
 
     /// Takes a line, which is given without its line feed, and appends the lines of its answer to the text, but for the one
@@ -81,28 +92,40 @@ impl LivePlayer {
         line: &[u8],
         text: &mut Vec<u8>,
     ) -> Result<Taken, LineFault>
-        requires { (lines : NotifyFront) × StandsAt (platform (entries natives.now) (drivers natives.now)) lines self.old }
-        ensures { (lines : NotifyFront) → StandsAt (platform (entries natives.now) (drivers natives.now)) lines self.old
+        requires { (lines : LiveFront) × StandsAt (platform (entries natives.now) (drivers natives.now)) lines self.old }
+        ensures { (lines : LiveFront) → StandsAt (platform (entries natives.now) (drivers natives.now)) lines self.old
             → Judges (platform (entries natives.now) (drivers natives.now)) lines line.now result
             self.new text.old.items text.new.items }
     {
         lines_stay_sound();
-        let said = read_line(alloc, natives.uuids().as_slice(), &self.scene, line)?;
-        match self.take(alloc, natives, said, text) {
-            Ok(how) => Ok(how.taken()),
-            Err(NoMemory) => Err(LineFault::NoRoom),
+        match read_line(alloc, natives.uuids().as_slice(), &self.scene, line)? {
+            LiveLine::Says(said) => match self.take(alloc, natives, said, text) {
+                Ok(how) => Ok(how.taken()),
+                Err(NoMemory) => Err(LineFault::NoRoom),
+            },
+            LiveLine::HistoryOff => {
+                self.forget();
+                Ok(Taken::Done)
+            }
         }
     }
 
     /// Whether a boot is among the lines.
     pub fn is_booted(&self) -> bool
-        ensures { (on : Platform) (lines : NotifyFront) → StandsAt on lines self.now → result ≡ is_some lines.trace.boot }
+        ensures { (on : Platform) (lines : LiveFront) → StandsAt on lines self.now → result ≡ is_some lines.told.trace.boot }
     {
         self.scene.is_booted()
     }
 
+    /// What the rules of the next line look at.
+    pub fn scene(&self) -> &Scene
+        ensures { (on : Platform) (lines : LiveFront) → StandsAt on lines self.now → IsSceneOf result.now lines }
+    {
+        &self.scene
+    }
+
     /// Appends what the core answers to a question, of which a boot stands before. Nothing changes: a core that is not booted yet
-    /// is booted for the answer alone.
+    /// is booted for the answer alone. Events are asked where history is kept.
     pub fn push_told(
         &self,
         alloc: Global,
@@ -110,11 +133,11 @@ impl LivePlayer {
         question: &Question,
         text: &mut Vec<u8>,
     ) -> Result<(), NoMemory>
-        requires { (lines : NotifyFront) × StandsAt (platform (entries natives.now) (drivers natives.now)) lines self.now
-            × (is_some lines.trace.boot ≡ true) }
-        ensures { (lines : NotifyFront) → StandsAt (platform (entries natives.now) (drivers natives.now)) lines self.now
-            → is_some lines.trace.boot ≡ true → OnOk result (text.new.items ≡ text.old.items
-            ++ told_at (platform (entries natives.now) (drivers natives.now)) lines question.now) }
+        requires { (lines : LiveFront) × StandsAt (platform (entries natives.now) (drivers natives.now)) lines self.now
+            × (is_some lines.told.trace.boot ≡ true) × CanTell (not lines.forgets) question.now }
+        ensures { (lines : LiveFront) → StandsAt (platform (entries natives.now) (drivers natives.now)) lines self.now
+            → is_some lines.told.trace.boot ≡ true → OnOk result (text.new.items ≡ text.old.items
+            ++ told_at (platform_at (platform (entries natives.now) (drivers natives.now)) lines) lines.told question.now) }
     {
         self.stage.push_told(alloc, natives, question, text)
     }

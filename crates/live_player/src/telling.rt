@@ -1,11 +1,13 @@
 //! What a core is asked for.
 
-ghost use Rattle.std.specs.Prelude.{◌≡◌, ◌++◌, OnOk, is_some, true};
-ghost use Rattle.live_play.specs.Answer.{Platform, platform};
+ghost use Rattle.std.specs.Prelude.{◌≡◌, ℕ, ◌++◌, OnOk, is_some, true};
+ghost use Rattle.live_play.specs.Answer.{Platform, platform_within};
 ghost use Rattle.live_play.specs.Showing.{told_at};
-ghost use Rattle.live_player.specs.Standing.{IsPlayedBehind, IsWithin, StageAt};
+ghost use Rattle.live_player.specs.Standing.{IsPlayedBehind, IsWithin, StageAt, terms_on};
 ghost use Rattle.native_tas.specs.Table.{drivers, entries};
 ghost use Rattle.notify_text.specs.Rules.{NotifyFront};
+ghost use Rattle.shown_lines.specs.Asking.{CanTell};
+ghost use Rattle.trace_player.specs.Playing.{terms_in};
 
 use crate::stage::Stage;
 use base::NoMemory;
@@ -21,6 +23,7 @@ fn push_told(
     question: &Question,
     text: &mut Vec<u8>,
 ) -> Result<(), AllocError>
+    requires { CanTell (terms_in player.now.player).keeps question.now }
     ensures { (on : Platform) (lines : NotifyFront) → IsPlayedBehind on lines player.now →
         OnOk result (text.new.items ≡ text.old.items ++ told_at on lines question.now) }
 {
@@ -29,7 +32,7 @@ fn push_told(
 
 impl Stage {
     /// Appends what the core answers to a question, of which a boot stands before. Where none is booted yet, one is booted for
-    /// the answer alone.
+    /// the answer alone. Events are asked where history is kept.
     pub(crate) fn push_told(
         &self,
         alloc: Global,
@@ -37,12 +40,13 @@ impl Stage {
         question: &Question,
         text: &mut Vec<u8>,
     ) -> Result<(), NoMemory>
-        requires { (lines : NotifyFront) × IsWithin (platform (entries natives.now) (drivers natives.now)) lines
-            × StageAt (platform (entries natives.now) (drivers natives.now)) lines self.now × (is_some lines.trace.boot ≡ true) }
-        ensures { (lines : NotifyFront) → IsWithin (platform (entries natives.now) (drivers natives.now)) lines
-            → StageAt (platform (entries natives.now) (drivers natives.now)) lines self.now → is_some lines.trace.boot ≡ true
+        requires kept { CanTell (terms_on self.now).keeps question.now }
+        requires stands { (most : ℕ) × (lines : NotifyFront) × IsWithin (platform_within most (entries natives.now) (drivers natives.now)) lines
+            × StageAt (platform_within most (entries natives.now) (drivers natives.now)) lines self.now × (is_some lines.trace.boot ≡ true) }
+        ensures { (most : ℕ) (lines : NotifyFront) → IsWithin (platform_within most (entries natives.now) (drivers natives.now)) lines
+            → StageAt (platform_within most (entries natives.now) (drivers natives.now)) lines self.now → is_some lines.trace.boot ≡ true
             → OnOk result (text.new.items ≡ text.old.items
-            ++ told_at (platform (entries natives.now) (drivers natives.now)) lines question.now) }
+            ++ told_at (platform_within most (entries natives.now) (drivers natives.now)) lines question.now) }
     {
         match self {
             Stage::Core(player) => push_told(alloc, player, question, text)?,

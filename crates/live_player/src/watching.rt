@@ -3,26 +3,27 @@
 ghost use Rattle.std.specs.Prelude.{◌≡◌, ◌++◌, IfOk, OnOk, length};
 ghost use Rattle.live_play.specs.Answer.{Platform, platform};
 ghost use Rattle.live_play.specs.Changes.{changes, text_of_changes};
-ghost use Rattle.live_play.specs.Showing.{cpu_out_by, lane_at};
+ghost use Rattle.live_play.specs.Showing.{cpu_out_by, lane_at, platform_at};
 ghost use Rattle.live_player.specs.Asking.{CanWatch, Watches, WatchesOn, cpu_going_out};
 ghost use Rattle.live_player.specs.Standing.{HasCome, IsOpen, IsPlayedBehind, StandsAt};
 ghost use Rattle.live_player.specs.Taking.{IsNext};
-ghost use Rattle.live_text.specs.Statement.{HasFewCpus};
+ghost use Rattle.live_text.specs.Rules.{LiveFront};
 ghost use Rattle.native_tas.specs.Table.{drivers, entries};
 ghost use Rattle.notify_text.specs.Rules.{NotifyFront};
 ghost use Rattle.trace_player.specs.Playing.{HasLane};
+ghost use Rattle.trace_text.specs.Statement.{HasFewCpus};
 
 use crate::player::LivePlayer;
 use crate::stage::Stage;
 use crate::taken::{Played, Taken};
 use base::NoMemory;
-use live_text::{Statement, lines_stay_sound, read_line};
+use live_text::{LiveLine, lines_stay_sound, read_line};
 use native_tas::Natives;
 use notify_player::NotifyPlayer;
 use ns_ram::{RAM_BYTES, RAM_START};
 use shown_lines::{push_changes, push_panic};
 use std::alloc::{AllocError, Global};
-use trace_text::{Item, LineFault};
+use trace_text::{Item, LineFault, Statement};
 
 /// The processor that goes out by an item, where one does.
 fn cpu_out_by(item: &Item) -> Option<u8>
@@ -114,16 +115,21 @@ impl LivePlayer {
         copy: &mut Vec<u8>,
         text: &mut Vec<u8>,
     ) -> Result<Taken, LineFault>
-        requires { (lines : NotifyFront) × StandsAt (platform (entries natives.now) (drivers natives.now)) lines self.old }
-        ensures { (lines : NotifyFront) → StandsAt (platform (entries natives.now) (drivers natives.now)) lines self.old
+        requires { (lines : LiveFront) × StandsAt (platform (entries natives.now) (drivers natives.now)) lines self.old }
+        ensures { (lines : LiveFront) → StandsAt (platform (entries natives.now) (drivers natives.now)) lines self.old
             → Watches (platform (entries natives.now) (drivers natives.now)) lines line.now result
             self.new text.old.items text.new.items }
     {
         lines_stay_sound();
-        let said = read_line(alloc, natives.uuids().as_slice(), &self.scene, line)?;
-        match self.take_watched(alloc, natives, said, copy, text) {
-            Ok(taken) => Ok(taken),
-            Err(NoMemory) => Err(LineFault::NoRoom),
+        match read_line(alloc, natives.uuids().as_slice(), &self.scene, line)? {
+            LiveLine::Says(said) => match self.take_watched(alloc, natives, said, copy, text) {
+                Ok(taken) => Ok(taken),
+                Err(NoMemory) => Err(LineFault::NoRoom),
+            },
+            LiveLine::HistoryOff => {
+                self.forget();
+                Ok(Taken::Done)
+            }
         }
     }
 
@@ -137,11 +143,11 @@ impl LivePlayer {
         text: &mut Vec<u8>,
     ) -> Result<Taken, NoMemory>
         requires few { HasFewCpus said }
-        requires next { (lines : NotifyFront)
-            × IsNext (platform (entries natives.now) (drivers natives.now)) lines said
+        requires next { (lines : LiveFront)
+            × IsNext (platform_at (platform (entries natives.now) (drivers natives.now)) lines) lines.told said
             × HasCome (platform (entries natives.now) (drivers natives.now)) lines self.old }
-        ensures { (lines : NotifyFront)
-            → IsNext (platform (entries natives.now) (drivers natives.now)) lines said
+        ensures { (lines : LiveFront)
+            → IsNext (platform_at (platform (entries natives.now) (drivers natives.now)) lines) lines.told said
             → HasCome (platform (entries natives.now) (drivers natives.now)) lines self.old
             → IfOk result (λ taken. WatchesOn (platform (entries natives.now) (drivers natives.now)) lines said taken
             self.new text.old.items text.new.items) }

@@ -1,21 +1,24 @@
 -- An answer: what is said to a line that asks nothing, to one that asks, and to what is no whole line.
 use Rattle.std.proofs.Common.{◌≡◌, ℕ, Bool, true, false, List, [], ◌∷◌, ◌++◌, Option, Some, None, refl, sym, ap, subst, ◌∙◌}
-use Rattle.std.specs.Prelude.{OnOk, IsErr, Result, Ok, Err, if◌then◌else◌, is_some, nat_lt}
+use Rattle.std.specs.Prelude.{OnOk, IsErr, Result, Ok, Err, if◌then◌else◌, is_some, nat_lt, not}
 use Rattle.std.specs.List.{flat_map, list_all}
 use Rattle.std.specs.Option.{option_map_or}
 use Rattle.line_port.specs.History.{Hears, Input}
 use Rattle.line_port.specs.History as history
 use Rattle.line_port.specs.declared.port.Heard.TheVariants as heard
-use Rattle.live_play.specs.Answer.{Answer, Bad, Done, Ending, Platform, TooLong, after_heard, answer, answer_to_line, play_at, text_of_answer, text_of_ending, without_lines}
-use Rattle.live_play.specs.Showing.{Position, position_after, shown_to, shown_to_other, told_at, watched_answer, watched_line, watching_after}
-use Rattle.live_play.proofs.Asked.{after_question, shown_by}
+use Rattle.live_play.specs.Answer.{Answer, Bad, Done, Ending, Platform, TooLong, after_heard, answer, play_at, text_of_answer, text_of_ending, without_lines}
+use Rattle.live_play.specs.Showing.{Position, history_ending, lines_after, platform_at, position_after, shown_to, shown_to_other, shown_to_unasked, told_at, watched_answer, watched_line, watching_after}
+use Rattle.live_play.proofs.Asked.{after_question, shown_by, unasked_by}
 use Rattle.live_player.specs.Asking.{Watches}
 use Rattle.live_player.specs.Standing.{StandsAt}
-use Rattle.live_player.specs.Taking.{Breaks, Judges, ending_of}
+use Rattle.live_player.specs.Taking.{Breaks, Judges, answer_behind, ending_of}
 use Rattle.live_player.specs.declared.player.LivePlayer.{LivePlayer}
 use Rattle.live_player.specs.declared.taken.Taken.{Taken}
 use Rattle.live_runner.specs.Turns.{CanBeAsked, HasAnswered, HasShown, IsHeard, StandsIn, TakesAs, TakesIn, Tells}
 use Rattle.live_runner.specs.declared.talk.Talk.{Talk}
+use Rattle.live_player.proofs.Taking.{answer_by_word}
+use Rattle.live_text.specs.Rules.{LiveFront, is_history}
+use Rattle.live_text.specs.Scene.{LiveScene, scene_of}
 use Rattle.live_text.specs.Asking.{IsAskedAs, kind_of_line, question_of, question_rules, rules_of}
 use Rattle.live_text.specs.declared.question.Question.{Question}
 use Rattle.live_text.specs.declared.question.Question.TheVariants as asks
@@ -40,22 +43,53 @@ use Rattle.trace_text.specs.declared.fault.LineFault.TheVariants.{Broken, NoRoom
 abbrev pub shown_as : Platform → NotifyFront → NotifyFront → Answer → Bool → List ℕ
 shown_as on before after given watching = if watching then watched_answer on before after given else text_of_answer given
 
-shown-as : (on : Platform) (here : Position) (input : Input) (watching : Bool) → here.is_watching ≡ watching
-    → shown_to_other on here input
-    ≡ shown_as on here.lines (after_heard on here.lines input) (answer on here.lines input) watching
-shown-as on here input watching e =
-    ap (λ (b : Bool). shown_as on here.lines (after_heard on here.lines input) (answer on here.lines input) b) e
-
 -- an answer of its ending alone, whether exits are watched or not
 ending_as : (on : Platform) (before after : NotifyFront) (given : Answer) (ending : Ending) (watching : Bool)
     → given ≡ without_lines ending → shown_as on before after given watching ≡ text_of_ending ending
 ending_as on before after given ending true e = ap (λ (a : Answer). watched_answer on before after a) e
 ending_as on before after given ending false e = ap text_of_answer e
 
-ending_shown : (on : Platform) (here : Position) (input : Input) (ending : Ending) → answer on here.lines input ≡ without_lines ending
+-- what is shown, where these lines count behind a line of a trace with signals
+abbrev shown_behind : Platform → LiveFront → List ℕ → Bool → List ℕ
+shown_behind on lines line watching =
+    let there = platform_at on lines in
+    shown_as there lines.told (after_heard there lines.told (history.Line line)) (answer_behind on lines line) watching
+
+shown_by_word : (on : Platform) (here : Position) (line : List ℕ) (is : Bool) → is_history (words_of line) ≡ is
+    → shown_to_unasked on here (history.Line line) ≡ shown_behind on here.lines line here.is_watching
+shown_by_word on here line true is =
+    let there : Platform = platform_at on here.lines in
+    unasked_by on here (history.Line line) true is
+    ∙ sym (ending_as there here.lines.told (after_heard there here.lines.told (history.Line line)) (answer_behind on here.lines line)
+    (history_ending on here.lines line) here.is_watching (answer_by_word on here.lines line true is))
+shown_by_word on here line false is =
+    let there : Platform = platform_at on here.lines in
+    unasked_by on here (history.Line line) false is
+    ∙ ap (λ (given : Answer). shown_as there here.lines.told (after_heard there here.lines.told (history.Line line)) given here.is_watching)
+    (sym (answer_by_word on here.lines line false is))
+
+shown-as : (on : Platform) (here : Position) (line : List ℕ) (watching : Bool) → here.is_watching ≡ watching
+    → shown_to_unasked on here (history.Line line) ≡ shown_behind on here.lines line watching
+shown-as on here line watching e =
+    shown_by_word on here line (is_history (words_of line)) refl ∙ ap (shown_behind on here.lines line) e
+
+ending_shown : (on : Platform) (here : Position) (line : List ℕ) (ending : Ending)
+    → answer_behind on here.lines line ≡ without_lines ending
+    → shown_to_unasked on here (history.Line line) ≡ text_of_ending ending
+ending_shown on here line ending e =
+    let there : Platform = platform_at on here.lines in
+    shown_by_word on here line (is_history (words_of line)) refl
+    ∙ ending_as there here.lines.told (after_heard there here.lines.told (history.Line line)) (answer_behind on here.lines line)
+    ending here.is_watching e
+
+-- to what is no whole line
+no_line_shown : (on : Platform) (here : Position) (input : Input) (ending : Ending)
+    → answer (platform_at on here.lines) here.lines.told input ≡ without_lines ending
     → shown_to_other on here input ≡ text_of_ending ending
-ending_shown on here input ending e =
-    ending_as on here.lines (after_heard on here.lines input) (answer on here.lines input) ending here.is_watching e
+no_line_shown on here input ending e =
+    let there : Platform = platform_at on here.lines in
+    ending_as there here.lines.told (after_heard there here.lines.told input) (answer there here.lines.told input) ending
+    here.is_watching e
 
 -- ---- a line that asks nothing
 
@@ -65,7 +99,7 @@ broken_taken : (on : Platform) (here : Position) (line : List ℕ) (kind : BadKi
     → TakesAs on here line (Bad kind) talk
 broken_taken on here line kind talk old none watching breaks = record {
   said = ap (λ (l : List ℕ). l ++ text_of_ending (Bad kind)) (breaks.text ∙ none)
-      ∙ sym (ending_shown on here (history.Line line) (Bad kind) breaks.answers);
+      ∙ sym (ending_shown on here line (Bad kind) breaks.answers);
   stands = record { player = breaks.stands; watching = watching };
 }
 
@@ -74,13 +108,15 @@ pub watched_taken : (on : Platform) (here : Position) (line : List ℕ) (result 
     → old ≡ [] → talk.is_watching ≡ here.is_watching → here.is_watching ≡ true
     → Watches on here.lines line result talk.player old talk.answer.items → TakesIn on here line result talk
 watched_taken on here line (Ok how) talk old none watching is_on takes =
-    let after : NotifyFront = after_heard on here.lines (history.Line line) in
-    let given : Answer = answer_to_line on here.lines line in
+    let there : Platform = platform_at on here.lines in
+    let before : NotifyFront = here.lines.told in
+    let after : NotifyFront = after_heard there before (history.Line line) in
+    let given : Answer = answer_behind on here.lines line in
     record {
       said = ap (λ (l : List ℕ). l ++ text_of_ending (ending_of how))
-          (takes.answers.text ∙ ap (λ (l : List ℕ). l ++ flat_map (watched_line on here.lines after) given.lines) none)
-          ∙ ap (λ (e : Ending). flat_map (watched_line on here.lines after) given.lines ++ text_of_ending e) (sym takes.answers.ending)
-          ∙ sym (shown-as on here (history.Line line) true is_on);
+          (takes.answers.text ∙ ap (λ (l : List ℕ). l ++ flat_map (watched_line there before after) given.lines) none)
+          ∙ ap (λ (e : Ending). flat_map (watched_line there before after) given.lines ++ text_of_ending e) (sym takes.answers.ending)
+          ∙ sym (shown-as on here line true is_on);
       stands = record { player = takes.stands; watching = watching };
     }
 watched_taken on here line (Err (Broken kind)) talk old none watching is_on breaks =
@@ -92,12 +128,12 @@ pub unwatched_taken : (on : Platform) (here : Position) (line : List ℕ) (resul
     → old ≡ [] → talk.is_watching ≡ here.is_watching → here.is_watching ≡ false
     → Judges on here.lines line result talk.player old talk.answer.items → TakesIn on here line result talk
 unwatched_taken on here line (Ok how) talk old none watching is_off takes =
-    let given : Answer = answer_to_line on here.lines line in
+    let given : Answer = answer_behind on here.lines line in
     record {
       said = ap (λ (l : List ℕ). l ++ text_of_ending (ending_of how))
           (takes.answers.text ∙ ap (λ (l : List ℕ). l ++ flat_map text_of_line given.lines) none)
           ∙ ap (λ (e : Ending). flat_map text_of_line given.lines ++ text_of_ending e) (sym takes.answers.ending)
-          ∙ sym (shown-as on here (history.Line line) false is_off);
+          ∙ sym (shown-as on here line false is_off);
       stands = record { player = takes.stands; watching = watching };
     }
 unwatched_taken on here line (Err (Broken kind)) talk old none watching is_off breaks =
@@ -110,7 +146,7 @@ pub plain_answered : {E : Type 0} (on : Platform) (here : Position) (line : List
     → taken.is_watching ≡ talk.is_watching → OnOk result (talk.answer.items ≡ taken.answer.items ++ text_of_ending ending)
     → OnOk result (HasAnswered on here line talk)
 plain_answered on here line ending taken talk (Ok done) takes player watching ends =
-    let P : LivePlayer → Type 0 = λ p. StandsAt on (after_heard on here.lines (history.Line line)) p in
+    let P : LivePlayer → Type 0 = λ p. StandsAt on (lines_after on here.lines (history.Line line)) p in
     record {
       said = ends ∙ takes.said;
       stands = record { player = subst P player takes.stands.player; watching = sym watching ∙ takes.stands.watching };
@@ -147,7 +183,7 @@ told_nothing (Some boot) (Some told) = refl
 pub watch_told : (on : Platform) (here : Position) (is_on : Bool) (talk : Talk) → talk.answer.items ≡ [] → StandsAt on here.lines talk.player
     → talk.is_watching ≡ is_on → Tells on here (asks.Watch is_on) talk
 watch_told on here is_on talk none stands watching = record {
-  said = none ∙ sym (told_nothing here.lines.trace.boot (play_at on here.lines));
+  said = none ∙ sym (told_nothing here.lines.told.trace.boot (play_at (platform_at on here.lines) here.lines.told));
   stands = record { player = stands; watching = watching };
 }
 
@@ -169,54 +205,60 @@ place_kept counted booted rules e =
     first_kept bad.Place booted rules (rest_kept bad.Count counted ((bad.Place, booted) ∷ rules) e)
 
 -- what keeps its rules can be asked
-kept_can : (kind : QuestionKind) (lines : NotifyFront) (ws : List (List ℕ)) (booted : Bool) → booted ≡ is_some lines.trace.boot
-    → first_broken (rules_of kind booted ws) ≡ None → CanBeAsked lines (question_of kind ws)
-kept_can word_of.Watch lines ws booted is e = tt
-kept_can word_of.State lines ws booted is e = sym is ∙ place_kept (counts 0 ws) booted [] e
-kept_can word_of.Session lines ws booted is e =
-    sym is
-    ∙ place_kept (counts 1 ws) booted
+kept_can : (kind : QuestionKind) (lines : LiveFront) (ws : List (List ℕ))
+    → first_broken (rules_of kind (scene_of lines) ws) ≡ None → CanBeAsked lines (question_of kind ws)
+kept_can word_of.Watch lines ws e = tt
+kept_can word_of.State lines ws e = place_kept (counts 0 ws) (is_some lines.told.trace.boot) [] e
+kept_can word_of.Session lines ws e =
+    place_kept (counts 1 ws) (is_some lines.told.trace.boot)
     ((bad.Number, is_decimal (word ws 1)) ∷ (bad.Range, nat_lt (decimal (word ws 1)) 4294967295) ∷ []) e
-kept_can word_of.Buffer lines ws booted is e =
-    sym is ∙ place_kept (counts 1 ws) booted ((bad.Number, is_hexadecimal 16 (word ws 1)) ∷ []) e
-kept_can word_of.Events lines ws booted is e =
-    sym is
-    ∙ place_kept (counts 2 ws) booted
-    ((bad.Number, is_decimal (word ws 1))
+kept_can word_of.Buffer lines ws e =
+    place_kept (counts 1 ws) (is_some lines.told.trace.boot) ((bad.Number, is_hexadecimal 16 (word ws 1)) ∷ []) e
+kept_can word_of.Events lines ws e =
+    let numbers : List (BadKind × Bool) =
+    (bad.Number, is_decimal (word ws 1))
     ∷ (bad.Number, is_decimal (word ws 2))
     ∷ (bad.Range, nat_lt (decimal (word ws 1)) 4294967295)
     ∷ (bad.Range, is_within 1 1024 (decimal (word ws 2)))
-    ∷ []) e
+    ∷ [] in
+    let booted : Bool = is_some lines.told.trace.boot in
+    let placed : List (BadKind × Bool) = (bad.Place, not lines.forgets) ∷ numbers in (
+      place_kept (counts 2 ws) booted placed e,
+      first_kept bad.Place (not lines.forgets) numbers
+          (rest_kept bad.Place booted placed (rest_kept bad.Count (counts 2 ws) ((bad.Place, booted) ∷ placed) e)),
+    )
 
-pub asked_can : (lines : NotifyFront) (line : List ℕ) (question : Question) (booted : Bool) (asked : Option QuestionKind)
-    → booted ≡ is_some lines.trace.boot → IsAskedAs asked booted line (Ok question) → CanBeAsked lines question
-asked_can lines line question booted None is judged = absurd judged
-asked_can lines line question booted (Some kind) is judged =
+-- a question was judged in the scene of these lines
+pub asked_can : (lines : LiveFront) (line : List ℕ) (question : Question) (scene : LiveScene) (asked : Option QuestionKind)
+    → scene ≡ scene_of lines → IsAskedAs asked scene line (Ok question) → CanBeAsked lines question
+asked_can lines line question scene None is judged = absurd judged
+asked_can lines line question scene (Some kind) is judged =
     let P : Question → Type 0 = λ q. CanBeAsked lines q in
+    let Q : LiveScene → Type 0 = λ s. first_broken (question_rules kind s line) ≡ None in
     subst P (sym judged.1)
-    (kept_can kind lines (words_of line) booted is
-    (rest_kept bad.Byte (list_all is_text_byte line) (rules_of kind booted (words_of line)) judged.0))
+    (kept_can kind lines (words_of line)
+    (rest_kept bad.Byte (list_all is_text_byte line) (rules_of kind (scene_of lines) (words_of line)) (subst Q is judged.0)))
 
 -- ---- what is shown to a line
 
 -- with these lines counting, and with exits watched or not
-pub rules_here : (here : Position) (kind : QuestionKind) (line : List ℕ) (booted : Bool) (fault : Option BadKind)
-    → booted ≡ is_some here.lines.trace.boot → first_broken (question_rules kind booted line) ≡ fault
-    → first_broken (question_rules kind (is_some here.lines.trace.boot) line) ≡ fault
-rules_here here kind line booted fault is e =
-    let P : Bool → Type 0 = λ b. first_broken (question_rules kind b line) ≡ fault in subst P is e
+pub rules_here : (here : Position) (kind : QuestionKind) (line : List ℕ) (scene : LiveScene) (fault : Option BadKind)
+    → scene ≡ scene_of here.lines → first_broken (question_rules kind scene line) ≡ fault
+    → first_broken (question_rules kind (scene_of here.lines) line) ≡ fault
+rules_here here kind line scene fault is e =
+    let P : LiveScene → Type 0 = λ s. first_broken (question_rules kind s line) ≡ fault in subst P is e
 
 -- a question that keeps its rules
-question_shown : (on : Platform) (here : Position) (line : List ℕ) (question : Question) (booted : Bool) (asked : Option QuestionKind)
-    (told talk : Talk) → kind_of_line line ≡ asked → booted ≡ is_some here.lines.trace.boot
-    → IsAskedAs asked booted line (Ok question) → Tells on here question told → told.player ≡ talk.player
+question_shown : (on : Platform) (here : Position) (line : List ℕ) (question : Question) (scene : LiveScene) (asked : Option QuestionKind)
+    (told talk : Talk) → kind_of_line line ≡ asked → scene ≡ scene_of here.lines
+    → IsAskedAs asked scene line (Ok question) → Tells on here question told → told.player ≡ talk.player
     → told.is_watching ≡ talk.is_watching → talk.answer.items ≡ told.answer.items ++ text_of_ending Done
     → HasShown on here (history.Line line) talk
-question_shown on here line question booted None told talk kind_is is judged tells player watching ends = absurd judged
-question_shown on here line question booted (Some kind) told talk kind_is is judged tells player watching ends =
+question_shown on here line question scene None told talk kind_is is judged tells player watching ends = absurd judged
+question_shown on here line question scene (Some kind) told talk kind_is is judged tells player watching ends =
     let input : Input = history.Line line in
-    let kept = rules_here here kind line booted None is judged.0 in
-    let asks_so : List ℕ = told_at on here.lines (question_of kind (words_of line)) ++ text_of_ending Done in
+    let kept = rules_here here kind line scene None is judged.0 in
+    let asks_so : List ℕ = told_at (platform_at on here.lines) here.lines.told (question_of kind (words_of line)) ++ text_of_ending Done in
     let now : Position = record here { is_watching = watching_after (question_of kind (words_of line)) here.is_watching } in
     let shown : shown_to on here input ≡ asks_so =
     shown_by on here input (Some kind) kind_is
@@ -229,7 +271,7 @@ question_shown on here line question booted (Some kind) told talk kind_is is jud
     record {
       said = ends
           ∙ ap (λ (l : List ℕ). l ++ text_of_ending Done)
-          (tells.said ∙ ap (λ (q : Question). told_at on here.lines q) judged.1)
+          (tells.said ∙ ap (λ (q : Question). told_at (platform_at on here.lines) here.lines.told q) judged.1)
           ∙ sym shown;
       stands = subst P (sym after)
           (record {
@@ -240,16 +282,16 @@ question_shown on here line question booted (Some kind) told talk kind_is is jud
     }
 
 -- one that breaks a rule
-broken_shown : (on : Platform) (here : Position) (line : List ℕ) (broken : BadKind) (booted : Bool) (asked : Option QuestionKind)
-    (before talk : Talk) → kind_of_line line ≡ asked → booted ≡ is_some here.lines.trace.boot
-    → IsAskedAs asked booted line (Err (Broken broken)) → before.answer.items ≡ [] → StandsIn on here before
+broken_shown : (on : Platform) (here : Position) (line : List ℕ) (broken : BadKind) (scene : LiveScene) (asked : Option QuestionKind)
+    (before talk : Talk) → kind_of_line line ≡ asked → scene ≡ scene_of here.lines
+    → IsAskedAs asked scene line (Err (Broken broken)) → before.answer.items ≡ [] → StandsIn on here before
     → before.player ≡ talk.player → before.is_watching ≡ talk.is_watching
     → talk.answer.items ≡ before.answer.items ++ text_of_ending (Bad broken) → HasShown on here (history.Line line) talk
-broken_shown on here line broken booted None before talk kind_is is judged none stands player watching ends = absurd judged
-broken_shown on here line broken booted (Some kind) before talk kind_is is judged none stands player watching ends =
+broken_shown on here line broken scene None before talk kind_is is judged none stands player watching ends = absurd judged
+broken_shown on here line broken scene (Some kind) before talk kind_is is judged none stands player watching ends =
     let input : Input = history.Line line in
-    let at = rules_here here kind line booted (Some broken) is judged in
-    let asks_so : List ℕ = told_at on here.lines (question_of kind (words_of line)) ++ text_of_ending Done in
+    let at = rules_here here kind line scene (Some broken) is judged in
+    let asks_so : List ℕ = told_at (platform_at on here.lines) here.lines.told (question_of kind (words_of line)) ++ text_of_ending Done in
     let now : Position = record here { is_watching = watching_after (question_of kind (words_of line)) here.is_watching } in
     let shown : shown_to on here input ≡ text_of_ending (Bad broken) =
     shown_by on here input (Some kind) kind_is
@@ -267,29 +309,29 @@ broken_shown on here line broken booted (Some kind) before talk kind_is is judge
 
 -- ---- the answer to a line, where memory was there for it
 
-pub question_answered : {E : Type 0} (on : Platform) (here : Position) (line : List ℕ) (question : Question) (booted : Bool)
-    (told talk : Talk) (result : Result (Unit {0}) E) → booted ≡ is_some here.lines.trace.boot
-    → IsAskedAs (kind_of_line line) booted line (Ok question) → Tells on here question told → told.player ≡ talk.player
+pub question_answered : {E : Type 0} (on : Platform) (here : Position) (line : List ℕ) (question : Question) (scene : LiveScene)
+    (told talk : Talk) (result : Result (Unit {0}) E) → scene ≡ scene_of here.lines
+    → IsAskedAs (kind_of_line line) scene line (Ok question) → Tells on here question told → told.player ≡ talk.player
     → told.is_watching ≡ talk.is_watching → OnOk result (talk.answer.items ≡ told.answer.items ++ text_of_ending Done)
     → OnOk result (HasShown on here (history.Line line) talk)
-question_answered on here line question booted told talk (Ok done) is judged tells player watching ends =
-    question_shown on here line question booted (kind_of_line line) told talk refl is judged tells player watching ends
-question_answered on here line question booted told talk (Err e) is judged tells player watching ends = tt
+question_answered on here line question scene told talk (Ok done) is judged tells player watching ends =
+    question_shown on here line question scene (kind_of_line line) told talk refl is judged tells player watching ends
+question_answered on here line question scene told talk (Err e) is judged tells player watching ends = tt
 
-pub broken_answered : {E : Type 0} (on : Platform) (here : Position) (line : List ℕ) (fault : LineFault) (booted : Bool)
-    (before talk : Talk) (result : Result (Unit {0}) E) → booted ≡ is_some here.lines.trace.boot
-    → IsAskedAs (kind_of_line line) booted line (Err fault) → before.answer.items ≡ [] → StandsIn on here before
+pub broken_answered : {E : Type 0} (on : Platform) (here : Position) (line : List ℕ) (fault : LineFault) (scene : LiveScene)
+    (before talk : Talk) (result : Result (Unit {0}) E) → scene ≡ scene_of here.lines
+    → IsAskedAs (kind_of_line line) scene line (Err fault) → before.answer.items ≡ [] → StandsIn on here before
     → before.player ≡ talk.player → before.is_watching ≡ talk.is_watching
     → ((kind : BadKind) → fault ≡ Broken kind
     → OnOk result (talk.answer.items ≡ before.answer.items ++ text_of_ending (Bad kind)))
     → (fault ≡ NoRoom → IsErr result) → OnOk result (HasShown on here (history.Line line) talk)
-broken_answered on here line (Broken broken) booted before talk (Ok done) is judged none stands player watching ends no_room =
-    broken_shown on here line broken booted (kind_of_line line) before talk refl is judged none stands player watching
+broken_answered on here line (Broken broken) scene before talk (Ok done) is judged none stands player watching ends no_room =
+    broken_shown on here line broken scene (kind_of_line line) before talk refl is judged none stands player watching
     (ends broken refl)
-broken_answered on here line (Broken broken) booted before talk (Err e) is judged none stands player watching ends no_room = tt
-broken_answered on here line NoRoom booted before talk (Ok done) is judged none stands player watching ends no_room =
+broken_answered on here line (Broken broken) scene before talk (Err e) is judged none stands player watching ends no_room = tt
+broken_answered on here line NoRoom scene before talk (Ok done) is judged none stands player watching ends no_room =
     absurd (not_so (no_room refl))
-broken_answered on here line NoRoom booted before talk (Err e) is judged none stands player watching ends no_room = tt
+broken_answered on here line NoRoom scene before talk (Err e) is judged none stands player watching ends no_room = tt
 
 -- ---- the answer to what was heard
 
@@ -313,7 +355,7 @@ long_answered on here line input talk old (Ok done) is none stands ends =
     let P : Input → Type 0 = λ i. HasShown on here i talk in
     subst P (same_input history.Long input is)
     (record {
-      said = ends ∙ ap (λ (l : List ℕ). l ++ text_of_ending TooLong) none ∙ sym (ending_shown on here history.Long TooLong refl);
+      said = ends ∙ ap (λ (l : List ℕ). l ++ text_of_ending TooLong) none ∙ sym (no_line_shown on here history.Long TooLong refl);
       stands = record { player = stands.player; watching = stands.watching };
     })
 long_answered on here line input talk old (Err e) is none stands ends = tt
@@ -328,7 +370,7 @@ cut_answered on here line input talk old (Ok done) is none stands ends =
     subst P (same_input history.Cut input is)
     (record {
       said = ends ∙ ap (λ (l : List ℕ). l ++ text_of_ending (Bad bad.Cut)) none
-          ∙ sym (ending_shown on here history.Cut (Bad bad.Cut) refl);
+          ∙ sym (no_line_shown on here history.Cut (Bad bad.Cut) refl);
       stands = record { player = stands.player; watching = stands.watching };
     })
 cut_answered on here line input talk old (Err e) is none stands ends = tt

@@ -10,9 +10,9 @@ use Rattle.line_port.specs.declared.finish.Finish.TheVariants as finish
 use Rattle.live_play.specs.Answer.{IsPlayed, Platform, play_at}
 use Rattle.live_play.specs.Conversation.{after_all}
 use Rattle.live_play.specs.Laws.{IsHeld, TurnsAreTold}
-use Rattle.live_play.specs.Showing.{IsShownRest, Position, first_position, position_after, position_behind, showing, shown_to}
-use Rattle.live_play.specs.ShowingLaws.{QuestionsChangeNothing, is_plain}
-use Rattle.live_runner.specs.Talks.{AreHeld, Shows}
+use Rattle.live_play.specs.Showing.{ArePlayed, IsShownRest, Position, first_position, position_after, position_behind, showing, shown_to}
+use Rattle.live_play.specs.ShowingLaws.{HistoryOffForgetsAlone, is_plain}
+use Rattle.live_runner.specs.Talks.{AreHeld, Shows, platform_behind}
 use Rattle.live_runner.specs.Turns.{StandsIn, Turns}
 use Rattle.live_runner.specs.declared.talk.Talk.{Talk}
 use Rattle.notify_play.specs.NotifyPlay.{NotifyPlay}
@@ -66,7 +66,7 @@ pub record Going (on : Platform) (start now : Option (List Event)) (talk : Talk)
   pub inputs : List Input
   pub history : Adds start now (showing on first_position inputs)
   pub stands : StandsIn on (position_behind on first_position inputs) talk
-  pub each : (front behind : List Input) → inputs ≡ front ++ behind → IsPlayed on (position_behind on first_position front).lines
+  pub each : (front behind : List Input) → inputs ≡ front ++ behind → ArePlayed on (position_behind on first_position front).lines
 
 pub going-first : (on : Platform) (start : Option (List Event)) (talk : Talk) → StandsIn on first_position talk
     → Going on start start talk
@@ -75,7 +75,7 @@ going-first on start talk stands = record {
   history = Adds-nil start;
   stands = stands;
   each = λ front behind e.
-      let P : List Input → Type 0 = λ l. IsPlayed on (position_behind on first_position l).lines in
+      let P : List Input → Type 0 = λ l. ArePlayed on (position_behind on first_position l).lines in
       subst P (sym (none-left front behind e)) stands.player.has_play;
 }
 
@@ -98,7 +98,7 @@ going-more on start old new before after going turns =
           (Hears input ∷ Says (shown_to on (position_behind on first_position going.inputs) input) ∷ []) going.history turn.1);
       stands = stands;
       each = λ front behind e.
-          let Q : List Input → Type 0 = λ l. IsPlayed on (position_behind on first_position l).lines in
+          let Q : List Input → Type 0 = λ l. ArePlayed on (position_behind on first_position l).lines in
           elim (parts going.inputs input front behind e) [
             | inl whole ↦ subst Q (sym whole) stands.player.has_play
             | inr rest ↦ going.each front rest.0 rest.1
@@ -121,11 +121,12 @@ held-there : (on : Platform) (inputs : List Input) → TurnsAreTold → IsPlayed
     → AreHeld on inputs
 held-there on inputs law played = held-by on inputs (after_all on no_lines inputs).trace.boot law refl played
 
--- what asks could as well have been left out
-held-behind : (on : Platform) (inputs : List Input) → TurnsAreTold → QuestionsChangeNothing
-    → IsPlayed on (position_behind on first_position inputs).lines → AreHeld on (filter is_plain inputs)
-held-behind on inputs told unchanged played =
-    held-there on (filter is_plain inputs) told (subst (IsPlayed on) (unchanged.left_out on first_position inputs) played)
+-- of the lines of a trace with signals, where entries read as much as they may by then
+held-behind : (on : Platform) (inputs : List Input) → TurnsAreTold → HistoryOffForgetsAlone
+    → ArePlayed on (position_behind on first_position inputs).lines → AreHeld (platform_behind on inputs) (filter is_plain inputs)
+held-behind on inputs told alone played =
+    let there : Platform = platform_behind on inputs in
+    held-there there (filter is_plain inputs) told (subst (IsPlayed there) (alone.in_order on inputs).lines played)
 
 heard-first : (a b : Input) (xs ys : List Event) → Hears a ∷ xs ≡ Hears b ∷ ys → a ≡ b
 heard-first a b xs ys e = cc
@@ -137,28 +138,28 @@ unanswered : (a b : Input) (part : List ℕ) → Hears a ∷ [] ≡ Hears b ∷ 
 unanswered a b part e = cc
 
 -- a part of the last answer was said
-half-held : (on : Platform) (inputs : List Input) (end : Finish) (rest : List Event) → TurnsAreTold → QuestionsChangeNothing
+half-held : (on : Platform) (inputs : List Input) (end : Finish) (rest : List Event) → TurnsAreTold → HistoryOffForgetsAlone
     → IsShownRest on (position_behind on first_position inputs) end rest → (input : Input) (part : List ℕ)
-    → rest ≡ Hears input ∷ Says part ∷ [] → AreHeld on (filter is_plain (inputs ++ input ∷ []))
-half-held on inputs finish.Over rest told unchanged ended input part e = absurd (said-nothing input part (sym ended ∙ e))
-half-held on inputs finish.ReadFault rest told unchanged ended input part e = absurd (said-nothing input part (sym ended ∙ e))
-half-held on inputs finish.WriteFault rest told unchanged ended input part e =
-    let P : Position → Type 0 = λ here. IsPlayed on here.lines in
-    let Q : Input → Type 0 = λ i. IsPlayed on (position_behind on first_position (inputs ++ i ∷ [])).lines in
-    held-behind on (inputs ++ input ∷ []) told unchanged
+    → rest ≡ Hears input ∷ Says part ∷ [] → AreHeld (platform_behind on (inputs ++ input ∷ [])) (filter is_plain (inputs ++ input ∷ []))
+half-held on inputs finish.Over rest told alone ended input part e = absurd (said-nothing input part (sym ended ∙ e))
+half-held on inputs finish.ReadFault rest told alone ended input part e = absurd (said-nothing input part (sym ended ∙ e))
+half-held on inputs finish.WriteFault rest told alone ended input part e =
+    let P : Position → Type 0 = λ here. ArePlayed on here.lines in
+    let Q : Input → Type 0 = λ i. ArePlayed on (position_behind on first_position (inputs ++ i ∷ [])).lines in
+    held-behind on (inputs ++ input ∷ []) told alone
     (subst Q (heard-first ended.0 input _ _ (sym ended.2 ∙ e))
     (subst P (sym (behind-more on first_position inputs ended.0)) ended.3))
-half-held on inputs finish.Memory rest told unchanged ended input part e =
+half-held on inputs finish.Memory rest told alone ended input part e =
     elim ended [
       | inl none ↦ absurd (said-nothing input part (sym none ∙ e))
       | inr heard ↦ absurd (unanswered heard.0 input part (sym heard.1 ∙ e))
     ]
 
 pub shows-ended : (on : Platform) (start old new : Option (List Event)) (talk : Talk) (end : Finish) → TurnsAreTold
-    → QuestionsChangeNothing → Going on start old talk
+    → HistoryOffForgetsAlone → Going on start old talk
     → ((here : Position) → StandsIn on here talk → (rest : List Event) × Adds old new rest × IsShownRest on here end rest)
     → Shows on start new end
-shows-ended on start old new talk end told unchanged going ends =
+shows-ended on start old new talk end told alone going ends =
     let last = ends (position_behind on first_position going.inputs) going.stands in
     record {
       talk = record {
@@ -168,6 +169,6 @@ shows-ended on start old new talk end told unchanged going ends =
         ended = last.2;
         played = going.stands.player.has_play;
       };
-      held = λ front behind e. held-behind on front told unchanged (going.each front behind e);
-      half_said = half-held on going.inputs end last.0 told unchanged last.2;
+      held = λ front behind e. held-behind on front told alone (going.each front behind e);
+      half_said = half-held on going.inputs end last.0 told alone last.2;
     }

@@ -6,7 +6,7 @@ use Rattle.line_port.specs.declared.finish.Finish.{Finish}
 use Rattle.live_play.specs.Answer.{Platform, play_at}
 use Rattle.live_play.specs.Conversation.{IsConversation, after_all}
 use Rattle.live_play.specs.Laws.{IsHeld}
-use Rattle.live_play.specs.Showing.{IsShowing}
+use Rattle.live_play.specs.Showing.{IsShowing, first_position, platform_at, position_behind}
 use Rattle.live_play.specs.ShowingLaws.{hears_plain, is_plain}
 use Rattle.notify_play.specs.NotifyPlay.{NotifyPlay}
 use Rattle.notify_text.specs.Rules.{no_lines}
@@ -29,16 +29,21 @@ pub record Talks (on : Platform) (old new : Option (List Event)) (finish : Finis
   pub half_said : (input : Input) (part : List ℕ) → talk.rest ≡ Hears input ∷ Says part ∷ []
       → AreHeld on (talk.inputs ++ input ∷ [])
 
--- nothing that asks is among what the history grew by
+-- nothing that asks, or turns history off, is among what the history grew by
 abbrev pub HearsNoQuestion : Option (List Event) → Option (List Event) → Type 0
 HearsNoQuestion old new = (events : List Event) → Adds old new events → list_all hears_plain events ≡ true
 
 -- ---- where lines may ask
 
--- the history grew by a conversation in which lines may ask. Of the lines that don't ask all is so behind each of its turns, and
--- behind the last line where a part of its answer was said
+-- how much entries may read behind this
+abbrev pub platform_behind : Platform → List Input → Platform
+platform_behind on inputs = platform_at on (position_behind on first_position inputs).lines
+
+-- the history grew by a conversation in which lines may ask. Of the lines of a trace with signals all is so behind each of its
+-- turns, and behind the last line where a part of its answer was said
 pub record Shows (on : Platform) (old new : Option (List Event)) (finish : Finish) : Type 0 where
   pub talk : IsShowing on old new finish
-  pub held : (front behind : List Input) → talk.inputs ≡ front ++ behind → AreHeld on (filter is_plain front)
+  pub held : (front behind : List Input) → talk.inputs ≡ front ++ behind →
+      AreHeld (platform_behind on front) (filter is_plain front)
   pub half_said : (input : Input) (part : List ℕ) → talk.rest ≡ Hears input ∷ Says part ∷ []
-      → AreHeld on (filter is_plain (talk.inputs ++ input ∷ []))
+      → AreHeld (platform_behind on (talk.inputs ++ input ∷ [])) (filter is_plain (talk.inputs ++ input ∷ []))

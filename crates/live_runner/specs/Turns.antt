@@ -1,19 +1,19 @@
 -- What one turn of a conversation comes to.
-use Rattle.std.specs.Prelude.{◌≡◌, ◌⊎◌, ℕ, List, [], ◌∷◌, ◌++◌, true, is_some, Option, None, Some, Result, Ok, Err}
+use Rattle.std.specs.Prelude.{◌≡◌, ◌⊎◌, ℕ, List, [], ◌∷◌, ◌++◌, true, is_some, not, Option, None, Some, Result, Ok, Err}
 use Rattle.line_port.specs.History.{Adds, Event, Hears, Input, Says, heard_events}
 use Rattle.line_port.specs.History as heard
 use Rattle.line_port.specs.declared.finish.Finish.{Finish}
 use Rattle.line_port.specs.declared.finish.Finish.TheVariants.{Memory}
 use Rattle.line_port.specs.declared.port.Heard.{Heard}
-use Rattle.live_play.specs.Answer.{Bad, Ending, Platform, after_heard, text_of_ending}
-use Rattle.live_play.specs.Showing.{IsShownRest, Position, position_after, shown_to, shown_to_other, told_at, watching_after}
+use Rattle.live_play.specs.Answer.{Bad, Ending, Platform, text_of_ending}
+use Rattle.live_play.specs.Showing.{IsShownRest, Position, lines_after, platform_at, position_after, shown_to, shown_to_unasked, told_at, watching_after}
 use Rattle.live_player.specs.Standing.{StandsAt}
 use Rattle.live_player.specs.Taking.{ending_of}
 use Rattle.live_player.specs.declared.taken.Taken.{Taken}
 use Rattle.live_runner.specs.declared.talk.Talk.{Talk}
+use Rattle.live_text.specs.Rules.{LiveFront}
 use Rattle.live_text.specs.declared.question.Question.{Question}
 use Rattle.live_text.specs.declared.question.Question.TheVariants as asks
-use Rattle.notify_text.specs.Rules.{NotifyFront}
 use Rattle.trace_text.specs.declared.fault.LineFault.{LineFault}
 use Rattle.trace_text.specs.declared.fault.LineFault.TheVariants.{Broken, NoRoom}
 
@@ -32,8 +32,8 @@ IsHeard heard line input = heard_events heard line ≡ Hears input ∷ []
 
 -- the line was taken so, and all of its answer stands but the line that ends it
 pub record TakesAs (on : Platform) (here : Position) (line : List ℕ) (ending : Ending) (talk : Talk) : Type 0 where
-  pub said : talk.answer.items ++ text_of_ending ending ≡ shown_to_other on here (heard.Line line)
-  pub stands : StandsIn on (record here { lines = after_heard on here.lines (heard.Line line) }) talk
+  pub said : talk.answer.items ++ text_of_ending ending ≡ shown_to_unasked on here (heard.Line line)
+  pub stands : StandsIn on (record here { lines = lines_after on here.lines (heard.Line line) }) talk
 
 -- by what came of it; of want of memory nothing is said
 abbrev pub TakesIn : Platform → Position → List ℕ → Result Taken LineFault → Talk → Type 0
@@ -43,22 +43,22 @@ TakesIn on here line (Err NoRoom) talk = Unit {0}
 
 -- all of its answer stands
 pub record HasAnswered (on : Platform) (here : Position) (line : List ℕ) (talk : Talk) : Type 0 where
-  pub said : talk.answer.items ≡ shown_to_other on here (heard.Line line)
-  pub stands : StandsIn on (record here { lines = after_heard on here.lines (heard.Line line) }) talk
+  pub said : talk.answer.items ≡ shown_to_unasked on here (heard.Line line)
+  pub stands : StandsIn on (record here { lines = lines_after on here.lines (heard.Line line) }) talk
 
 -- ---- an answer to a question
 
--- but for `watch` a boot stands before it
-abbrev pub CanBeAsked : NotifyFront → Question → Type 0
+-- but for `watch` a boot stands before it; and events are asked where history is kept
+abbrev pub CanBeAsked : LiveFront → Question → Type 0
 CanBeAsked lines (asks.Watch on) = Unit {0}
-CanBeAsked lines asks.State = is_some lines.trace.boot ≡ true
-CanBeAsked lines (asks.Session number) = is_some lines.trace.boot ≡ true
-CanBeAsked lines (asks.Buffer cookie) = is_some lines.trace.boot ≡ true
-CanBeAsked lines (asks.Events from count) = is_some lines.trace.boot ≡ true
+CanBeAsked lines asks.State = is_some lines.told.trace.boot ≡ true
+CanBeAsked lines (asks.Session number) = is_some lines.told.trace.boot ≡ true
+CanBeAsked lines (asks.Buffer cookie) = is_some lines.told.trace.boot ≡ true
+CanBeAsked lines (asks.Events from count) = (is_some lines.told.trace.boot ≡ true) × (not lines.forgets ≡ true)
 
 -- what it asks was done, and the lines of its answer stand
 pub record Tells (on : Platform) (here : Position) (question : Question) (talk : Talk) : Type 0 where
-  pub said : talk.answer.items ≡ told_at on here.lines question
+  pub said : talk.answer.items ≡ told_at (platform_at on here.lines) here.lines.told question
   pub stands : StandsIn on (record here { is_watching = watching_after question here.is_watching }) talk
 
 -- ---- an answer

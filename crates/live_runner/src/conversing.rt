@@ -9,7 +9,7 @@ ghost use Rattle.native_tas.specs.Table.{drivers, entries};
 
 use crate::talk::Talk;
 use line_port::{Finish, Port};
-use live_play::{plain_conversations_are_as_before, questions_change_nothing, turns_are_told};
+use live_play::{history_off_forgets_alone, plain_conversations_are_as_before, turns_are_told};
 use native_tas::Natives;
 use std::alloc::Global;
 
@@ -47,12 +47,12 @@ fn take_turn<P: Port>(
 pub fn live<P: Port>(alloc: Global, natives: &Natives, port: &mut P) -> Finish
     requires { P.finish port.old ≡ None }
 
-    // ---- The history grew by a conversation from the first line on, in which lines may ask. Of the lines that don't, as of the
-    // last one where its answer was said in part, all returns are those of one play, whose history is legal, with the kernel's own
+    // ---- The history grew by a conversation from the first line on, in which lines may ask. Of the lines of a trace with signals, as of
+    // the last one where its answer was said in part, all returns are those of one play, whose history is legal, with the kernel's own
     // answers, behind each turn.
     ensures shows { Shows (platform (entries natives.now) (drivers natives.now)) (P.history port.old) (P.history port.new) result }
 
-    // ---- Where no line asks, the history grew by a conversation from the first line on, as it does without lines that ask; and
+    // ---- Where no line asks or turns history off, the history grew by a conversation from the first line on, as it does without lines that ask; and
     // behind each of its turns, as behind an answer that was said in part, all returns are those of one play, whose history is
     // legal, with the kernel's own answers.
     ensures talks { HearsNoQuestion (P.history port.old) (P.history port.new) →
@@ -62,7 +62,7 @@ pub fn live<P: Port>(alloc: Global, natives: &Natives, port: &mut P) -> Finish
     ensures ends { IsEndOf result (P.finish port.new) }
 {
     plain_conversations_are_as_before();
-    questions_change_nothing();
+    history_off_forgets_alone();
     turns_are_told();
     let mut talk = Talk::new(alloc);
     for _ in 0..u64::MAX {

@@ -112,7 +112,7 @@ impl Talk {
             → OnOk result (HasShown (platform (entries natives.now) (drivers natives.now)) here
             (history.Line self.old.line.items) self.new) }
     {
-        match read_question(self.player.is_booted(), self.line.as_slice()) {
+        match read_question(self.player.scene(), self.line.as_slice()) {
             Some(Ok(question)) => {
                 self.tell(alloc, natives, &question)?;
                 push_done(&mut self.answer)

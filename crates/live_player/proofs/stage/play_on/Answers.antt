@@ -5,32 +5,32 @@ use Rattle.native_tas.specs.Table.{drivers, entries}
 use Rattle.notify_play.specs.NotifyPlay.{after_item}
 use Rattle.notify_player.specs.Playing.{Follows}
 use Rattle.word_parts.specs.declared.stop.Stop.{Stop}
-use Rattle.live_play.specs.Answer.{platform}
+use Rattle.live_play.specs.Answer.{platform_within}
 use Rattle.live_player.proofs.Panics.{item_ends}
 use Rattle.live_player.proofs.Playing.{desk_is, item_can, item_done, item_full}
 use Rattle.live_player.proofs.stage.play_on.Goals as goal
 
 pub play_item-requires-clause-can : goal.play_item-requires-clause-can
 play_item-requires-clause-can g c =
-    item_can (entries c.args.natives.now) (drivers c.args.natives.now) c.requires.0 c.args.item.now c.args.player.now
-    c.machines_stand.ensures c.requires.1 c.requires.2
+    item_can c.requires.0 (entries c.args.natives.now) (drivers c.args.natives.now) c.requires.1 c.args.item.now c.args.player.now
+    c.machines_stand.ensures c.requires.2 c.requires.3
 
 pub play_item-requires-clause-desk : goal.play_item-requires-clause-desk
 play_item-requires-clause-desk g c =
-    desk_is (entries c.args.natives.now) (drivers c.args.natives.now) c.requires.0 c.args.player.now
-    c.desks_keep_their_drivers.ensures c.requires.2
+    desk_is c.requires.0 (entries c.args.natives.now) (drivers c.args.natives.now) c.requires.1 c.args.player.now
+    c.desks_keep_their_drivers.ensures c.requires.3
 
 pub returns-in-Ok-clause-plays : goal.returns-in-Ok-clause-plays
-returns-in-Ok-clause-plays g c = λ lines next p.
-    item_done (entries c.args.natives.now) (drivers c.args.natives.now) lines c.args.item.now c.args.player.now
+returns-in-Ok-clause-plays g c = λ most lines next p.
+    item_done most (entries c.args.natives.now) (drivers c.args.natives.now) lines c.args.item.now c.args.player.now
     c.play_item.new.self c.args.text.now.items c.play_item.new.lines.items next p
     (c.in-Ok.ensures.follows (booted p.boot (entries c.args.natives.now)) p.told p.stands)
 
 pub returns-in-Err-Full-clause-plays : goal.returns-in-Err-Full-clause-plays
-returns-in-Err-Full-clause-plays g c = λ lines next p.
+returns-in-Err-Full-clause-plays g c = λ most lines next p.
     let natives = entries c.args.natives.now in
     let ds = drivers c.args.natives.now in
-    item_full natives ds lines c.args.item.now c.args.player.now c.play_item.new.self c.copied.result
+    item_full most natives ds lines c.args.item.now c.args.player.now c.play_item.new.self c.copied.result
     c.args.text.now.items c.play_item.new.lines.items next p
     (subst (λ (stop : Stop). Follows (booted p.boot natives) ds p.told (after_item (booted p.boot natives) ds c.args.item.now p.told)
     (Err stop) c.play_item.new.self c.args.text.now.items c.play_item.new.lines.items) c.in-Err-Full.field-0-is
@@ -38,7 +38,7 @@ returns-in-Err-Full-clause-plays g c = λ lines next p.
     (cc)
 
 pub returns-in-Ok-clause-panic : goal.returns-in-Ok-clause-panic
-returns-in-Ok-clause-panic g c = λ lines p.
+returns-in-Ok-clause-panic g c = λ most lines p.
     let natives = entries c.args.natives.now in
-    item_ends (platform natives (drivers c.args.natives.now)) lines c.args.item.now c.args.player.now c.in-Ok.panic p
+    item_ends (platform_within most natives (drivers c.args.natives.now)) lines c.args.item.now c.args.player.now c.in-Ok.panic p
     (c.in-Ok.ensures.panic (booted p.boot natives) p.told p.stands)

@@ -30,24 +30,24 @@ loop-preserved g c = record {
 
 pub returns-in-Err-clause-shows : goal.returns-in-Err-clause-shows
 returns-in-Err-clause-shows g c =
-    shows-ended _ _ _ _ _ c.in-Err.finish c.turns_are_told.ensures c.questions_change_nothing.ensures c.loop.invariant.going
+    shows-ended _ _ _ _ _ c.in-Err.finish c.turns_are_told.ensures c.history_off_forgets_alone.ensures c.loop.invariant.going
     c.in-Err.ensures.turn
 
 pub returns-in-Err-clause-talks : goal.returns-in-Err-clause-talks
 returns-in-Err-clause-talks g c =
     plain-talks _ _ _ _ c.plain_conversations_are_as_before.ensures
-    (shows-ended _ _ _ _ _ c.in-Err.finish c.turns_are_told.ensures c.questions_change_nothing.ensures c.loop.invariant.going
+    (shows-ended _ _ _ _ _ c.in-Err.finish c.turns_are_told.ensures c.history_off_forgets_alone.ensures c.loop.invariant.going
     c.in-Err.ensures.turn)
 
 pub returns-clause-shows : goal.returns-clause-shows
 returns-clause-shows g c =
-    shows-ended _ _ _ _ _ finish.Memory c.turns_are_told.ensures c.questions_change_nothing.ensures c.loop.invariant.going
+    shows-ended _ _ _ _ _ finish.Memory c.turns_are_told.ensures c.history_off_forgets_alone.ensures c.loop.invariant.going
     (λ here stands. ([], Adds-nil _, inl refl))
 
 pub returns-clause-talks : goal.returns-clause-talks
 returns-clause-talks g c =
     plain-talks _ _ _ _ c.plain_conversations_are_as_before.ensures
-    (shows-ended _ _ _ _ _ finish.Memory c.turns_are_told.ensures c.questions_change_nothing.ensures c.loop.invariant.going
+    (shows-ended _ _ _ _ _ finish.Memory c.turns_are_told.ensures c.history_off_forgets_alone.ensures c.loop.invariant.going
     (λ here stands. ([], Adds-nil _, inl refl)))
 
 pub returns-clause-ends : goal.returns-clause-ends
