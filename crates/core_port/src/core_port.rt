@@ -93,7 +93,9 @@ impl<B: OfBoot> CorePort<B> {
         ensures boot { self.now.boot ≡ B.booted }
         ensures kernels { IsKernels self.now }
         ensures few { copied_bytes self.now.history ≤ 2 ^ 28 }
-    {}
+    {
+        let _made = self.made;
+    }
 }
 
 impl<B: OfBoot> SmcPort for CorePort<B> {
