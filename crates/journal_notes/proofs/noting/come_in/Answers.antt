@@ -53,22 +53,26 @@ come_in-requires-clause-own g c = c.outgoing-ran.ensures.own
 pub returns-then-not-came-clause-does : goal.returns-then-not-came-clause-does
 returns-then-not-came-clause-does g c =
     let event = entry_of c.args.visitor c.args.reads.now in
-    does_still c.args.replay.now c.lay_for.new.self c.enter.new.self event (Ok false) c.lay_for.ensures.stays
-    (subst (λ (r : Result Bool NoMemory). Does c.lay_for.new.self c.enter.new.self event r) (c.in_ok-came.was ∙ as_is c.in_ok-came.came false c.if-not-came.true)
+    let laid = record c.lay_for.new.self { kept = c.replay-1.given.0 } in
+    does_still c.args.replay.now laid c.enter.new.self event (Ok false) c.lay_for.ensures.stays
+    (subst (λ (r : Result Bool NoMemory). Does laid c.enter.new.self event r) (c.in_ok-came.was ∙ as_is c.in_ok-came.came false c.if-not-came.true)
     c.enter.ensures.does)
 
 pub returns-clause-does : goal.returns-clause-does
 returns-clause-does g c =
     let event = entry_of c.args.visitor c.args.reads.now in
-    does_still c.args.replay.now c.lay_for.new.self c.enter.new.self event (Ok true) c.lay_for.ensures.stays
-    (subst (λ (r : Result Bool NoMemory). Does c.lay_for.new.self c.enter.new.self event r) (c.in_ok-came.was ∙ as_is c.in_ok-came.came true c.if-not-came.false)
-    c.enter.ensures.does)
+    let laid = record c.lay_for.new.self { kept = c.replay-1.given.0 } in
+    let was = c.in_ok-came.was ∙ as_is c.in_ok-came.came true c.if-not-came.false in
+    let done : HasDone c.args.replay.now c.enter.new.self event =
+    does_still c.args.replay.now laid c.enter.new.self event (Ok true) c.lay_for.ensures.stays
+    (subst (λ (r : Result Bool NoMemory). Does laid c.enter.new.self event r) was c.enter.ensures.does) in
+    record { boot = done.boot; events = done.events }
 
 pub returns-clause-noted : goal.returns-clause-noted
 returns-clause-noted g c ok =
     let event = entry_of c.args.visitor c.args.reads.now in
     let was = c.in_ok-came.was ∙ as_is c.in_ok-came.came true c.if-not-came.false in
-    let before = c.lay_for.new.self in
+    let before = record c.lay_for.new.self { kept = c.replay-1.given.0 } in
     let after = c.enter.new.self in
     let come = c.enter.ensures.came was in
     let did : HasDone before after event = subst (λ (r : Result Bool NoMemory). Does before after event r) was c.enter.ensures.does in

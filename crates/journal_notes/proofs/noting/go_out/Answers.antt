@@ -14,7 +14,7 @@ pub returns-clause-does : goal.returns-clause-does
 returns-clause-does g c =
     let old = c.args.replay.now in
     let it = c.in_ok-go_out.ensures.noted in
-    let new = record old { at_work = c.go_out.new.at_work; lane = c.go_out.new.lane; kept = c.go_out.ensures.terms ∙ old.kept } in
+    let new = record old { at_work = c.go_out.new.at_work; lane = c.go_out.new.lane; kept = c.replay-1.given.0 } in
     exit_does g.N.EventNotes.meaning old new c.args.cpu c.args.regs.now old.lane c.go_out.new.lane c.args.notes.now c.go_out.new.self it
     c.last_has_left.result
     (c.last_has_left.ensures (done_by old) c.args.cpu it.told
@@ -24,7 +24,7 @@ pub returns-clause-noted : goal.returns-clause-noted
 returns-clause-noted g c ok =
     let old = c.args.replay.now in
     let it = c.in_ok-go_out.ensures.noted in
-    let new = record old { at_work = c.go_out.new.at_work; lane = c.go_out.new.lane; kept = c.go_out.ensures.terms ∙ old.kept } in
+    let new = record old { at_work = c.go_out.new.at_work; lane = c.go_out.new.lane; kept = c.replay-1.given.0 } in
     let is : c.last_has_left.result ≡ true = cc in
     exit_noted g.N.EventNotes.meaning old new c.args.cpu c.args.regs.now old.lane c.go_out.new.lane c.args.notes.now c.go_out.new.self it
     ((c.last_has_left.ensures (done_by old) c.args.cpu it.told
