@@ -20,25 +20,25 @@ pub struct Asked {
 }
 
 /// The registers and the reads of an entry, if it is one.
-fn entry_in(entry: Option<&Event>) -> Option<(Regs, &[Read])>
-    ensures { MatchOption result (came_by (option_copied entry) ≡ came_with [] [])
-        (λ came. came_by (option_copied entry) ≡ came_with came.0.a came.1.now) }
+fn entry_in(last: Option<&Event>) -> Option<(Regs, &[Read])>
+    ensures { MatchOption result (came_by (option_copied last.entry) ≡ came_with [] [])
+        (λ came. came_by (option_copied last.entry) ≡ came_with came.0.a came.1.now) }
 {
-    match entry {
+    match last {
         Some(Event::Entry { regs, reads, .. }) => Some((*regs, reads.as_slice())),
         Some(Event::Exit { .. }) | None => None,
     }
 }
 
 /// What the exit of a processor asks by its last entry, where the kernel says this in a0. One that never came in asks nothing.
-pub fn asked_by(entry: Option<&Event>, a0: u32) -> Asked
-    requires { IsLastOfLegal (option_copied entry) }
-    ensures duty { duty_in result.duty ≡ duty_of (came_by (option_copied entry)) a0 }
+pub fn asked_by(last: Option<&Event>, a0: u32) -> Asked
+    requires { IsLastOfLegal (option_copied last) }
+    ensures duty { duty_in result.duty ≡ duty_of (came_by (option_copied last.entry)) a0 }
     // Nothing that is told depends on more of the entry.
-    ensures caller { IsToldAlike (came_by (option_copied entry)).regs result.caller.a (duty_in result.duty) }
+    ensures caller { IsToldAlike (came_by (option_copied last.entry)).regs result.caller.a (duty_in result.duty) }
     ensures argument { HasArgument (duty_in result.duty) }
 {
-    let Some((caller, reads)) = entry_in(entry) else {
+    let Some((caller, reads)) = entry_in(last) else {
         return Asked {
             caller: Regs { a: [0; 8] },
             duty: Duty::Nothing,
