@@ -1,8 +1,9 @@
 -- What a line says that keeps its rules, and where the player stands behind it.
 use Rattle.std.proofs.Common.{◌≡◌, ℕ, ◌^◌, ◌≤◌, Bool, true, false, cond, List, [], ◌∷◌, ◌++◌, append-nil, length, Option, Some, None, refl, sym, ap, subst, ◌∙◌, arith}
-use Rattle.std.specs.Prelude.{All, IfNone, IfOk, IfSome, IsSome, Result, Ok, Err, if◌then◌else◌, is_some, not}
+use Rattle.std.specs.Prelude.{All, IfNone, IfOk, IfSome, IsSome, Result, Ok, Err, codes, if◌then◌else◌, is_none, is_some, not}
 use Rattle.std.specs.List.{flat_map, list_all}
 use Rattle.std.specs.Option.{option_map_or}
+use Rattle.std.specs.Str.{bytes_eq}
 use Rattle.std.proofs.lemmas.Bool.{and_parts}
 use Rattle.std.proofs.lemmas.List.{append_cancel_left, length-append}
 use Rattle.std.proofs.lemmas.List.Elements.{All-push}
@@ -52,7 +53,7 @@ use Rattle.trace_player.proofs.Booting.{AreApart, sound_boots}
 use Rattle.trace_player.specs.Starting.{uuids_of}
 use Rattle.trace_text.specs.Forms.{decimal}
 use Rattle.trace_text.specs.Limits.{SceneState, first_broken, has_no_item}
-use Rattle.trace_text.specs.Rules.{is_text_byte, kind_named, word}
+use Rattle.trace_text.specs.Rules.{counts, is_text_byte, kind_named, word}
 use Rattle.trace_text.specs.Sound.{IsSoundBoot}
 use Rattle.trace_text.specs.Statement.{IsInPlace}
 use Rattle.trace_text.specs.declared.fault.BadKind.{BadKind}
@@ -310,6 +311,11 @@ last_kept true true false place repeat e = absurd cc
 last_kept true false count place repeat e = absurd cc
 last_kept false item count place repeat e = absurd cc
 
+turning_kept : (lines : LiveFront) (line : List ℕ) → first_broken (turning_rules lines line) ≡ None → not lines.forgets ≡ true
+turning_kept lines line e =
+    last_kept (list_all is_text_byte line) (bytes_eq (word (words_of line) 1) (codes "off")) (counts 1 (words_of line))
+    (is_none lines.told.trace.boot) (not lines.forgets) e
+
 -- what is said stands beside whether history is off, so a line that says it doesn't turn it off
 says_by : (on : Platform) (lines : LiveFront) (line : List ℕ) (said : Statement) (scene : SceneState) (is : Bool)
     → is_history (words_of line) ≡ is → LinesStaySound → IsWithin (platform_at on lines) lines.told
@@ -317,7 +323,7 @@ says_by : (on : Platform) (lines : LiveFront) (line : List ℕ) (said : Statemen
     → live_says.with_statement lines said ≡ live.after_line lines line → IsInPlace scene said → Says on lines line said
 says_by on lines line said scene true is stay inside scened kept adds place =
     let repeat : not lines.forgets ≡ true =
-    last_kept _ _ _ _ (not lines.forgets) (sym (ap first_broken (rules_by (uuids_in on) lines line true is)) ∙ kept) in
+    turning_kept lines line (sym (ap first_broken (rules_by (uuids_in on) lines line true is)) ∙ kept) in
     let forgets : lines.forgets ≡ true =
     ap (λ (l : LiveFront). l.forgets) (sym (adds_told lines said) ∙ adds ∙ after_by lines line true is) in
     absurd (let no : not true ≡ true = ap not (sym forgets) ∙ repeat in cc)

@@ -1,4 +1,4 @@
-use Rattle.std.proofs.Common.{◌^◌, ap, ◌∙◌}
+use Rattle.std.proofs.Common.{◌^◌, ap, refl, ◌∙◌}
 use Rattle.std.specs.Prelude.{if◌then◌else◌}
 use Rattle.live_play.specs.Answer.{platform}
 use Rattle.live_play.specs.Showing.{platform_at}
@@ -18,7 +18,7 @@ returns-in_ok-add-in-Done-clause-takes g c = λ lines next come.
         scene = c.in_ok-take-in-Done.ensures.taken lines come.scene ∙ ap scene_of (adds_told lines c.args.said);
         within = record { sound = next.next.sound; signals = next.next.signals };
         stage_at = c.in_ok-add-in-Done.ensures.added (platform_at on lines) lines.told next.placed plays.stands;
-        terms = c.in_ok-add-in-Done.ensures.terms ∙ c.in_ok-panic.ensures.terms ∙ come.terms;
+        terms = c.in_ok-add-in-Done.ensures.terms ∙ c.in_ok-panic.ensures.terms refl ∙ come.terms;
       };
     }
 
@@ -32,7 +32,7 @@ returns-in-Full-clause-takes g c = λ lines next come.
         scene = come.scene;
         within = come.within;
         stage_at = plays.stands;
-        terms = c.in_ok-panic.ensures.terms ∙ come.terms;
+        terms = c.in_ok-panic.ensures.terms refl ∙ come.terms;
       };
     }
 
