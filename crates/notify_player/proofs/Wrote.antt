@@ -42,6 +42,7 @@ wrote-none boot at cpu player stands =
         booted = machine.booted;
         history = machine.history;
         kernel = machine.kernel;
+        limit = machine.limit;
         lanes = machine.lanes ∙ sym (set-get_or at.play.lanes cpu []);
         goes_on = machine.goes_on;
       };
@@ -56,6 +57,7 @@ wrote-more boot play cpu first second machine within at = record {
   booted = at.booted;
   history = at.history;
   kernel = at.kernel;
+  limit = at.limit;
   lanes = at.lanes ∙ lanes-twice play.lanes cpu first second within;
   goes_on = at.goes_on;
 }

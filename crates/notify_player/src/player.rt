@@ -36,8 +36,9 @@ pub struct NotifyPlayer {
 impl NotifyPlayer {
     /// Before any entry: nothing was asked of the desk.
     pub(crate) fn new(player: Player, desk: Desk) -> NotifyPlayer
-        ensures { (boot : Booted) (ds : Drivers) (play : Play) → StandsAt boot (position_of play) player → play.history ≡ []
+        ensures stands { (boot : Booted) (ds : Drivers) (play : Play) → StandsAt boot (position_of play) player → play.history ≡ []
             → desk ≡ new_desk ds → IsPlayedTo boot ds (first_notify_play boot play) result }
+        ensures player { result.player ≡ player }
     {
         NotifyPlayer { player, desk }
     }

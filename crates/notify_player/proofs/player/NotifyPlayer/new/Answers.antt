@@ -7,8 +7,8 @@ use Rattle.play_model.specs.Play.{last_answer}
 use Rattle.trace_player.proofs.Answers.{same-told}
 use Rattle.notify_player.proofs.player.NotifyPlayer.new.Goals as goal
 
-pub returns : goal.returns
-returns c = λ boot ds play at none new. record {
+pub returns-clause-stands : goal.returns-clause-stands
+returns-clause-stands c = λ boot ds play at none new. record {
   at =
       same-told boot play (last_answer play.history)
       (λ cpu. slice_index_or (replicate boot.cpus (replicate 8 0)) cpu []) c.args.player

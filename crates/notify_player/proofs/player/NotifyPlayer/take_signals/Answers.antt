@@ -2,6 +2,8 @@ use Rattle.std.proofs.Common.{List, refl, sym, subst, ap, ◌∙◌, arith}
 use Rattle.notify_play.specs.NotifyPlay.{NotifyPlay}
 use Rattle.notify_text.specs.Sound.{IsSoundSignal}
 use Rattle.notify_text.specs.declared.notify_trace.Signal.{Signal}
+use Rattle.trace_player.specs.Playing.{terms_in}
+use Rattle.trace_player.specs.declared.player.Player.{Player}
 use Rattle.notify_player.specs.Playing.{IsPlayedTo}
 use Rattle.notify_player.specs.Signalling.{signalled_by}
 use Rattle.notify_player.proofs.Signals.{all-tail, behind-more, front-ends, front-more, front-none, signalled}
@@ -11,6 +13,7 @@ pub loop-rest-init : goal.loop-rest-init
 loop-rest-init c = record {
   sound = λ items sound. sound;
   behind = refl;
+  player = refl;
   signalled = λ boot ds told stands. (told, stands, refl);
 }
 
@@ -31,6 +34,7 @@ loop-rest-preserved c =
     record {
       sound = λ items sound. all-tail (IsSoundSignal items) rest some (c.loop-rest.invariant.sound items sound);
       behind = sym (behind-more c.args.at rest _ some c.if-first-at.false) ∙ c.loop-rest.invariant.behind;
+      player = c.loop-rest.invariant.player;
       signalled = λ boot ds told stands.
           let was = c.loop-rest.invariant.signalled boot ds told stands in (
             _,
@@ -57,3 +61,9 @@ returns-then-first-at-clause-signals c = λ boot ds told stands.
     (front-ends c.args.at c.loop-rest.rest.now _ some c.if-first-at.true))
     ∙ was.2)
     was.1
+
+pub returns-in_default-clause-terms : goal.returns-in_default-clause-terms
+returns-in_default-clause-terms c = ap (λ (player : Player). terms_in player) c.loop-rest.invariant.player
+
+pub returns-then-first-at-clause-terms : goal.returns-then-first-at-clause-terms
+returns-then-first-at-clause-terms c = ap (λ (player : Player). terms_in player) c.loop-rest.invariant.player
