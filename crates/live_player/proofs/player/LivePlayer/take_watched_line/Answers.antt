@@ -46,4 +46,4 @@ returns-in-HistoryOff g c = λ lines stands.
     let plays = stands_at natives ds c.as_slice.result.now same c.as_slice.ensures.fits
     (rw c.as_slice.ensures.value c.uuids.ensures.apart) in
     watches_off (platform natives ds) lines c.args.line.now c.forget.new.self _ off.answer
-    (forgets (platform natives ds) lines c.args.line.now c.forget.new.self _ off plays come).stands
+    (forgets (platform natives ds) lines c.args.line.now c.forget.new.self c.args.text.now.items off plays come).stands
