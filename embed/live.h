@@ -56,7 +56,7 @@ struct live_application {
 
 /* Options of a boot, each a line that is said before the others. A program that doesn't know one answers `bad item`. */
 enum live_option {
-    LIVE_HISTORY_OFF = 1 /* the core keeps no history, for a life without a limit; today's program doesn't know it */
+    LIVE_HISTORY_OFF = 1 /* the core keeps no history, for a life without a limit: events are counted alone */
 };
 
 /* What a core is booted with. */
@@ -150,7 +150,7 @@ struct live_slot {
     uint32_t client, session, instance;
     char wants[8]; /* at LIVE_ASKS: `time`, `suspend`, `read` and others, by docs/conversation.md */
     bool has_buffer, is_cancelled;
-    /* At LIVE_RUNS and LIVE_ASKS: its application has masked cancellation. Today's program doesn't tell it: false. */
+    /* At LIVE_RUNS and LIVE_ASKS: its application has masked cancellation. An older program doesn't tell it. */
     bool is_masked;
     uint64_t address, cookie; /* of its buffer */
 };

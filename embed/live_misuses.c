@@ -314,6 +314,7 @@ static void try_watched_scripts(void) {
     /* By one write: else it depends on the moment of the close whether a signal ends the program. */
     try_state("seventeen slots", BOOTED "slots=; for i in 0 1 2 3 4 5 6 7 8 9 10 11 12 13 14 15 16; do slots=\"${slots}slot $i free\n\"; done; "
                                         "printf '%s' \"${slots}ok\n\"; read -r line");
+    try_state("a mask of a slot that there isn't", BOOTED "printf 'slot 0 free\nmasked 1\nok\n'; read -r line");
     try_state("a processor that there isn't", BOOTED "printf 'inside 8\nok\n'; read -r line");
     try_state("an instance of half a line", BOOTED "printf 'instance 1 1111 users 1\nok\n'; read -r line");
     try_state("a count that is none", BOOTED "printf 'sessions many\nok\n'; read -r line");

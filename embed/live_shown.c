@@ -31,6 +31,7 @@ static void print_slot(unsigned number, const struct live_slot *slot) {
     if (slot->phase > LIVE_ACTIVE) printf(", client %" PRIu32 ", session %" PRIu32, slot->client, slot->session);
     if (slot->wants[0]) printf(", wants %s", slot->wants);
     if (slot->has_buffer) printf(", buffer %" PRIx64 " of cookie %" PRIx64, slot->address, slot->cookie);
+    if (slot->is_masked) printf(", masked");
     printf("\n");
 }
 

@@ -52,7 +52,7 @@ Answer = collections.namedtuple("Answer", "lines ending")
 
 
 # What a core keeps: of each slot, and of each instance, the words of its line by their names; the processors that are inside; and the
-# counts by their words. A slot that is free or active has its `phase` alone, and `cpu`.
+# counts by their words. A slot that is free or active has its `phase` alone, and `cpu`; one whose call is masked has `masked`.
 State = collections.namedtuple("State", "slots inside instances counts")
 
 # What an instance's line has behind its number.
@@ -104,15 +104,18 @@ TOLD |= {question: (ANY, ANY) for question in ("state", "session", "buffer", "ev
 class Conversation:
     """A conversation with a core of its own, whose program has so many seconds for each answer. `heard`, where it is given, is called with each line and its answer. With `watch` exits
     are watched, and `ram` has a copy of each processor's RAM, which is behind each answer what the core sees, up to a line
-    `watch off`; else it is None. Meanwhile `panic` has the code of the panic in which the call of the last exit has ended, or None."""
+    `watch off`; else it is None. Meanwhile `panic` has the code of the panic in which the call of the last exit has ended, or None.
+    Without `history` the core keeps none, and its life has no limit."""
 
-    def __init__(self, file=None, heard=None, watch=False, patience=PATIENCE):
+    def __init__(self, file=None, heard=None, watch=False, history=True, patience=PATIENCE):
         self.heard, self.ram, self.panic, self.patience = heard, None, None, patience
         self.file, self.read_ahead = program.found("optee_live", file), b""
         self.process = program.started(self.file, stdin=subprocess.PIPE, stdout=subprocess.PIPE)
         if watch:
             self.ask("watch on")
             self.ram = []
+        if not history:
+            self.ask("history off")
 
     def __enter__(self):
         return self
@@ -259,6 +262,8 @@ class Conversation:
             word, number, rest = (*told.split(" ", 2), "")[:3]
             if word == "slot":
                 state.slots.append(named(SLOT, rest))
+            elif word == "masked":
+                state.slots[int(number)]["masked"] = True
             elif word == "inside":
                 state.inside.add(int(number))
             elif word == "instance":
