@@ -35,7 +35,7 @@ class Description:
     is_virtual: bool = False  # the clock
     steps: int = 100_000  # that one entry is granted
     limit: int = 10_000  # milliseconds
-    has_history: bool = True
+    has_history: bool = False
 
     def lines(self):
         """The lines that boot the core, without the one for its history."""

@@ -230,7 +230,7 @@ static const char *read_lines(struct reading *reading, FILE *file) {
 
 TEEC_Result description_read(struct description *description, const char *path) {
     struct reading reading = {.description = description, .path = path};
-    *description = (struct description){.steps = USUAL_STEPS, .limit = USUAL_LIMIT, .has_history = true};
+    *description = (struct description){.steps = USUAL_STEPS, .limit = USUAL_LIMIT};
     FILE *file = fopen(path, "re");
     if (file == NULL) {
         SAY("%s: %s", path, strerror(errno));
