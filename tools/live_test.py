@@ -2,17 +2,20 @@
 """Tries the program of a conversation over pipes and other streams, as its users have them. No part of the gate.
 
 The conversations are those that `live_cases` holds. They are given whole, and line by line; a line in pieces, several at once, and many
-more than are read; streams that are closed, full or slow, or no streams of that kind; a normal world that does what it likes; and,
-where there is a C compiler, each request for memory is refused in turn. The program is what `rt run` has built in crates/optee_live, or
-FILE. It prints each thing that isn't as docs/conversation.md has it, and at the end how many were compared.
+more than are read; streams that are closed, full or slow, or no streams of that kind; a normal world that does what it likes; with history
+and without it; a life of a million turns, or N, in the same memory (life.py has what is wanted of it); and, where there is a C compiler,
+each request for memory is refused in turn. The program is what `rt run` has built in crates/optee_live, or FILE. It prints what the life
+took, each thing that isn't as docs/conversation.md has it, and at the end how many were compared.
 Status: 0 where all is as wanted, 1 where something isn't, 2 at other words.
-usage: live_test.py [program=FILE]
+usage: live_test.py [program=FILE] [turns=N]
 """
 
 import contextlib
 import fcntl
 import os
 import pathlib
+import random
+import re
 import select
 import signal
 import subprocess
@@ -24,12 +27,13 @@ import time
 import arg
 import conversations
 import formats
+import life
 import live
 import program
 import shipped
 from check import Comparison
 from embed import compiler
-from words import BadWords, run
+from words import BadWords, number, run
 
 PATIENCE = 20  # seconds
 MOMENT = 0.2
@@ -49,13 +53,19 @@ KEPT = {"sessions": 0, "buffers": 0, "pages": 1, "events": 2, "copied": 0}  # of
 SHARED = "11111111-2222-3333-4444-555555555555"  # an application whose sessions share one instance
 CALL = [formats.CALL_WITH_ARG, 0, live.RAM_START]
 ASKED = ["state", "session 1", "buffer 40010000", "events 0 3"]  # behind each line
+AT_ONCE = 200  # lines of a life, whose answers the pipe holds
+TURNS, FEWEST_TURNS = 1_000_000, 1000  # of a long life
+KEPT_TURNS = 50_000  # of one that keeps its history, which takes at least so many bytes for each
+KEPT_BYTES = 64
+SAME_MEMORY = 256  # KiB that a life without history may grow by
+DRAWN = 2000  # lines
 
 
 class Tests:
     """The program, and what was compared."""
 
-    def __init__(self, path, comparison):
-        self.path, self.same = path, comparison.same
+    def __init__(self, path, comparison, turns=TURNS):
+        self.path, self.same, self.turns = path, comparison.same, turns
         self.cases = {case.name: case for case in conversations.cases()}
 
     def ends(self, what, wanted, **streams):
@@ -262,7 +272,8 @@ def try_questions(tests):
     read. And with its exits watched: behind it the copies of RAM are what the core sees."""
     for case in tests.cases.values():
         with live.Conversation(tests.path) as talk:
-            given = [asked(talk, line) for line, _ in case.turns]
+            has_history = not turns_history_off(case)
+            given = [asked(talk, line, has_history) for line, _ in case.turns]
             tests.same(f"{case.name}, with questions", given, [answer for _, answer in case.turns])
         with live.Conversation(tests.path, watch=True) as talk:
             for line, _ in case.turns:
@@ -272,15 +283,181 @@ def try_questions(tests):
             tests.same(f"{case.name}, its copies of RAM", seen, [True] * len(seen))
 
 
-def asked(talk, line):
-    """The answer to a line, behind which questions are asked. Behind a boot they are answered."""
+def asked(talk, line, has_history):
+    """The answer to a line, behind which questions are asked. Behind a boot they are answered, but for events where there is no history."""
     lines, ending = talk.send(line)
     told = [talk.send(question).ending for question in ASKED]
     if told != ["bad place"] * len(ASKED):
-        if told != ["ok"] * len(ASKED):
+        if told != ["ok"] * (len(ASKED) - 1) + ["ok" if has_history else "bad place"]:
             return told
         talk.state()
     return [*lines, ending]
+
+
+def turns_history_off(case):
+    return ("history off", ["ok"]) in case.turns
+
+
+def try_without_history(tests):
+    """Each conversation that keeps its history, without it: the answers are those with it, but to questions for events, and up to an
+    entry for which it was full."""
+    for case in tests.cases.values():
+        if not turns_history_off(case):
+            with live.Conversation(tests.path, history=False) as talk:
+                for line, answer in case.turns:
+                    lines, ending = talk.send(line)
+                    if answer[-1].startswith("full"):
+                        tests.same(f"{case.name}, which isn't full", (len(lines), ending), (int(line.startswith("smc")), "ok"))
+                        break
+                    wanted = answer_without_history(line, answer)
+                    tests.same(f"{case.name}, without history, at {line:.60}", [*lines, ending], wanted)
+
+
+def answer_without_history(line, answer):
+    """What is answered without history to a line that has this answer with it, whose first faults are told before."""
+    is_other = line.split(" ")[0] == "events" and answer[-1] not in ("bad long", "bad byte", "bad count")
+    return ["bad place"] if is_other else answer
+
+
+def try_drawn_lines(tests):
+    """Lines of a normal world that does what it likes: the same answers with history and without it."""
+    for seed in range(3):
+        with live.Conversation(tests.path) as kept, live.Conversation(tests.path, history=False) as counted:
+            parted, told = [], set()
+            for line in drawn_lines(random.Random(seed), DRAWN):
+                answer, other = kept.send(line), counted.send(line)
+                parted += [(line, answer, other)] if answer != other else []
+                told |= {live.registers_of(answer.lines)[0]} if line.startswith(("smc", "leave")) and answer.lines else set()
+            tests.same(f"drawn lines of seed {seed}", parted[:1], [])
+            tests.same(f"what is answered to drawn lines of seed {seed}", {0, 1, 3, *formats.RPCS} - told, set())
+
+
+def drawn_lines(chance, count):
+    """The lines of a boot, and so many behind it."""
+    counts, waits = (shipped.read(shipped.EXAMPLES / f"applications/{name}.hex").strip() for name in ("counter", "wait_unmasked"))
+    yield from ("boot 2 3 6", f"ta {SHARED} {waits[:8]}0c{waits[10:]}", f"ta 2{SHARED[1:]} {counts}")
+    for _ in range(count):
+        yield chance.choice(DRAWS)(chance)
+
+
+def drawn_argument(chance):
+    session, application = chance.randrange(1, 5), chance.choice([SHARED, f"2{SHARED[1:]}"])
+    calls = (
+        f"open {application}", f"invoke {session} 5 id 1 value_out", f"invoke {session} 0 rmem_in 0 4096 1", f"cancel {session} 1",
+        f"close {session}", "register 40020000 8192 1", "unregister 1",
+    )
+    words = chance.choices(calls, weights=(4, 6, 2, 2, 1, 1, 1))[0]
+    return f"write {chance.randrange(2)} {live.RAM_START:x} {arg.argument(words.split()).hex()}"
+
+
+def drawn_entry(chance):
+    """Registers of a call or of a resume, with some client, thread and buffer."""
+    client, thread, buffer = chance.choice([0, 0, 0, 1]), chance.randrange(4), chance.choice([0x4003_0000, 0])
+    calls = [*CALL, 0, 0, 0, 0, client], [formats.CALL_WITH_RPC_ARG, 0, live.RAM_START, 0, 0, 0, 0, client]
+    resume = [formats.RETURN_FROM_RPC, 0, buffer, thread, 0, thread, 0, client]
+    registers = " ".join(f"{register:x}" for register in chance.choice([*calls, resume, resume, resume]))
+    return f"{chance.choice(['smc', 'smc', 'smc', 'enter'])} {chance.randrange(2)} {chance.choice([1, 1000, 1000])} {registers}"
+
+
+DRAWS = [
+    *[drawn_argument] * 3,
+    *[drawn_entry] * 6,
+    *[lambda chance: f"leave {chance.randrange(2)}"] * 2,
+    lambda chance: f"show {chance.randrange(2)} 40000000 64",
+    lambda chance: f"write {chance.randrange(2)} 40030014 00000000",
+    lambda chance: "write 0 40020000 00001040000000000020104000000000",
+    lambda chance: f"signal {chance.randrange(1, 5)}",
+    lambda chance: f"smc 0 1 b20000{chance.randrange(0x10, 0x12):x} 0 0 0 0 0 0 0",
+    lambda chance: "state",
+    lambda chance: f"session {chance.randrange(1, 9)}",
+    lambda chance: "buffer 1",
+]
+
+
+class Living:
+    """The program in a life: what is said is compared with what is wanted, up to the first line that has another answer."""
+
+    def __init__(self, process, is_kept=False):
+        self.process, self.life, self.parted = process, life.Life(is_kept), None
+
+    def goes_on(self):
+        """Says what has come to be said. Whether all answers were those that are wanted."""
+        said, self.life.said = self.life.said, []
+        for first in range(0, len(said), AT_ONCE):
+            some = said[first : first + AT_ONCE]
+            write(self.process, "".join(it.line for it in some).encode())
+            wanted = "".join(it.answer for it in some).encode()
+            given = read_to(self.process, len(wanted))
+            if given != wanted:
+                self.parted = self.parted or first_parted(some, given.decode("latin-1"))
+                return False
+        return True
+
+    def resident(self):
+        """The memory of the process, in KiB."""
+        told = pathlib.Path(f"/proc/{self.process.pid}/status").read_text()
+        return int(re.search(r"^VmRSS:\s+(\d+) kB$", told, re.MULTILINE)[1])
+
+    def seconds(self):
+        """The processor time of the process."""
+        fields = pathlib.Path(f"/proc/{self.process.pid}/stat").read_text().rpartition(")")[2].split()
+        return sum(map(int, fields[11:13])) / os.sysconf("SC_CLK_TCK")
+
+    def ages(self, turns):
+        """At least so many turns more, of all kinds."""
+        until, age = self.life.turns + turns, 0
+        while self.life.turns < until and self.goes_on():
+            self.life.age(age)
+            age += 1
+        self.goes_on()
+
+
+def first_parted(said, given):
+    """The first line that has another answer, with both."""
+    for line, wanted in said:
+        told, given = given[: len(wanted)], given[len(wanted) :]
+        if told != wanted:
+            return line, told, wanted
+    return None
+
+
+def try_limit(tests):
+    """A life up to 2^28 bytes that entries read, with history and without it; there the one is full, and the other goes on, beyond
+    2^32 bytes."""
+    for is_kept in (True, False):
+        with tests.start() as process:
+            living = Living(process, is_kept)
+            living.ages(1)
+            session, until = living.life.open(life.ADD), life.MOST_READ if is_kept else 1 << 32
+            while living.goes_on() and living.life.copied <= until and living.life.add_beside_memory(session, living.life.turns, 7):
+                pass
+            living.life.smc([life.GET_THREAD_COUNT], [0, life.THREADS])
+            living.life.state()
+            living.life.close(session)
+            living.ages(1)
+            tests.same(f"a life of {living.life.copied} bytes read", (living.parted, living.life.copied > 1 << 32), (None, not is_kept))
+
+
+def try_long_life(tests):
+    """A long life in the same memory. One that keeps its history grows with its turns, so this could be seen."""
+    with tests.start() as process:
+        living = Living(process)
+        living.ages(tests.turns // 10)
+        first, before, began, used = living.life.turns, living.resident(), time.monotonic(), living.seconds()
+        living.ages(tests.turns - first)
+        after, took, used = living.resident(), time.monotonic() - began, living.seconds() - used
+        tests.same(f"a life of {living.life.turns} turns", living.parted, None)
+        tests.same(f"its memory, from {before} to {after} KiB", after - before <= SAME_MEMORY, True)
+        own = 1e6 * used / (living.life.turns - first)
+        what = f"turns {first} to {living.life.turns} of a life without history"
+        print(f"{what}: {took:.1f} s, {own:.2f} us of the program's for each, {before} to {after} KiB")
+    with tests.start() as process:
+        living = Living(process, is_kept=True)
+        before = living.resident()
+        living.ages(KEPT_TURNS)
+        grown = 1024 * (living.resident() - before) // living.life.turns
+        tests.same(f"a life of {living.life.turns} turns with history", living.parted, None)
+        tests.same(f"its memory, {grown} bytes a turn", grown >= KEPT_BYTES, True)
 
 
 def try_fuzzer(tests):
@@ -329,21 +506,23 @@ def try_memory(tests):
 
 
 def refuse_each(tests, case, library):
+    """A refusal ends the program with 6. For the bytes of a line `write` memory is asked for once more, so once for each such line it may
+    go on as if none was refused."""
     answers = answers_of(case)
-    fronts = [b"".join(answers[:count]) for count in range(len(answers) + 1)]
-    number, is_refused = 0, True
+    fronts, whole = [b"".join(answers[:count]) for count in range(len(answers) + 1)], b"".join(answers)
+    writes = sum(line.startswith("write ") for line, _ in case.turns)
+    request, is_refused = 0, True
     while is_refused:
-        number += 1
-        settings = os.environ | {"LD_PRELOAD": str(library), "REFUSE": str(number)}
+        request += 1
+        settings = os.environ | {"LD_PRELOAD": str(library), "REFUSE": str(request)}
         run_once = {"input": lines_of(case), "capture_output": True, "timeout": PATIENCE, "env": settings, "check": False}
         done = subprocess.run([tests.path], **run_once)
         is_refused = b"refused\n" in done.stderr
-        wanted = (6, True) if is_refused else (0, True)
-        said = done.stdout in fronts if is_refused else done.stdout == fronts[-1]
-        tests.same(f"{case.name}, memory request {number}", (done.returncode, said), wanted)
-        if (done.returncode, said) != wanted:
-            return
-    print(f"{case.name}: {number - 1} requests for memory, each refused once")
+        went_on = (done.returncode, done.stdout) == (0, whole)
+        writes -= is_refused and went_on
+        has_ended = is_refused and done.returncode == 6 and done.stdout in fronts
+        tests.same(f"{case.name}, memory request {request}, {done.returncode}", has_ended or went_on and writes >= 0, True)
+    print(f"{case.name}: {request - 1} requests for memory, each refused once")
 
 
 def write(process, data):
@@ -378,6 +557,10 @@ TESTS = [
     try_sleepers,
     try_served,
     try_questions,
+    try_without_history,
+    try_drawn_lines,
+    try_limit,
+    try_long_life,
     try_fuzzer,
     try_memory,
 ]
@@ -385,9 +568,11 @@ TESTS = [
 
 def main(words):
     words = list(words)
-    file = program.taken_from(words)
+    file, turns = program.taken_from(words), number(program.taken_from(words, "turns") or str(TURNS))
     if words:
         raise BadWords()
+    if turns < FEWEST_TURNS:
+        raise BadWords(f"a long life has at least {FEWEST_TURNS} turns")
     signal.signal(signal.SIGPIPE, signal.SIG_IGN)
     comparison = Comparison()
     path = program.found("optee_live", file)
@@ -396,7 +581,7 @@ def main(words):
             talk.ask("boot 1 1 1")
     except (live.Over, live.NoConversation, live.Refused) as error:
         raise BadWords(f"{path} holds no conversation: {error}") from error
-    tests = Tests(path, comparison)
+    tests = Tests(path, comparison, turns)
     for test in TESTS:
         try:
             test(tests)
