@@ -166,29 +166,58 @@ static void put(uint8_t *at, int bytes, uint64_t number) {
     for (int i = 0; i < bytes; i++) at[i] = (uint8_t)(number >> 8 * i);
 }
 
-/* Entries that read as much as one can: 32 + 128 bytes of an argument, and four times 65,536 of memory. */
-static void try_full(const char *image) {
+/* Boots a core with these options, and opens a session whose invokes read as much as one can: 32 + 128 bytes of an argument, and four
+ * times 65,536 of memory. */
+static struct live *opened_for_memory(const char *image, unsigned options) {
     struct live_application application = {"11111111-1111-1111-1111-111111111111", image};
     struct live *live = open_or_exit(path);
     uint8_t opens[96] = {0}, invokes[160] = {[0] = INVOKE_COMMAND, [8] = 1, [28] = 4};
     uint64_t half = 0x1111111111111111u;
-    unsigned taken = 0;
     put(opens + 28, 4, 2), put(opens + 32, 8, 0x101), put(opens + 40, 8, half), put(opens + 48, 8, half), put(opens + 64, 8, 0x101);
     for (int i = 0; i < 4; i++) {
         uint8_t *parameter = invokes + 32 + 32 * i;
         put(parameter, 8, MEMORY_IN), put(parameter + 8, 8, RAM + MOST_BYTES), put(parameter + 16, 8, MOST_BYTES);
     }
     struct live_core one = core_of(&application, 1, NULL);
+    one.options = options;
     tell("a boot", live_boot(live, &one));
     tell("an argument", live_write(live, 0, RAM, opens, sizeof opens));
     tell("an open", live_smc(live, 0, 1000, call));
     tell("an argument", live_write(live, 0, RAM, invokes, sizeof invokes));
+    return live;
+}
+
+/* Invokes that come in, up to so many. The answer to the next one. */
+static struct live_answer invoke_up_to(struct live *live, unsigned most) {
+    unsigned taken = 0;
     struct live_answer answer;
-    while ((answer = live_smc(live, 0, 1000, call)).end == LIVE_OK) taken++;
+    while ((answer = live_smc(live, 0, 1000, call)).end == LIVE_OK && taken < most) taken++;
     printf("%u invokes\n", taken);
-    tell("one more", answer);
+    return answer;
+}
+
+/* 2^28 bytes are 1,023 invokes. */
+static void try_full(const char *image) {
+    struct live *live = opened_for_memory(image, 0);
+    tell("one more", invoke_up_to(live, 2000));
     tell("one by an enter", live_enter(live, 0, 1000, call));
     tell("which isn't inside", live_leave(live, 0));
+    ask("a call that reads nothing", live, 0);
+    told_status(live);
+}
+
+/* Without history no entry is refused: what all have read, 96 + 2,001 * 262,304 bytes, and that they were 2,002 is counted. */
+static void try_history_off(const char *image) {
+    static struct live_state state;
+    struct live_core again = usual;
+    again.options = LIVE_HISTORY_OFF;
+    struct live *live = opened_for_memory(image, LIVE_HISTORY_OFF);
+    tell("one more", invoke_up_to(live, 2000));
+    tell("a state", live_state(live, &state));
+    printf("  events %" PRIu64 ", copied %" PRIu64 "\n", state.events, state.copied);
+    struct live_answer answer = live_boot(live, &again);
+    tell("history off once more", answer);
+    printf("  %s\n", answer.part == LIVE_OF_OPTIONS ? "of the options" : "of something else");
     ask("a call that reads nothing", live, 0);
     told_status(live);
 }
@@ -349,6 +378,7 @@ int main(int count, char **words) {
     try_questions();
     try_ram();
     try_full(image);
+    try_history_off(image);
     try_killed();
     try_stopped();
     try_scripts();
