@@ -3,8 +3,9 @@
 
 Runs the program for N and for 2N calls, and `cat`, which gives back each line: what pipes and this side cost by themselves. Of
 each it prints turns a second by the clock, and the processor time of the other side for a turn, in its own code and in the system's; and
-last the instructions of a further call, and the bytes that it keeps. Build the program first, by `rt run` in crates/optee_live.
-Usage: bench/conversing.py [N [PROGRAM]]
+last the instructions of a further call, and the bytes that it keeps; with `off`, of a core that keeps no history. Build the program first,
+by `rt run` in crates/optee_live.
+Usage: bench/conversing.py [N [PROGRAM [off]]]
 """
 
 import os
@@ -16,11 +17,11 @@ from callgrind import counted
 from playing import BY_VECTORS
 
 PROGRAM = pathlib.Path(__file__).resolve().parent.parent / "crates/optee_live/out/optee_live"
-BOOT, CALL = b"boot 1 1 1\n", b"smc 0 1 bf00ff01 0 0 0 0 0 0 0\n"
+BOOT, OFF, CALL = b"boot 1 1 1\n", b"history off\n", b"smc 0 1 bf00ff01 0 0 0 0 0 0 0\n"
 
 
-def turns(program, count):
-    """The seconds of so many turns by the clock, and what the system says of the other side."""
+def turns(program, count, front):
+    """The seconds of so many turns behind some lines by the clock, and what the system says of the other side."""
     to, heard = os.pipe()
     said, back = os.pipe()
     child = os.posix_spawn(program, [program], os.environ, file_actions=[
@@ -28,7 +29,8 @@ def turns(program, count):
         *[(os.POSIX_SPAWN_CLOSE, stream) for stream in (to, heard, said, back)],
     ])
     os.close(to), os.close(back)
-    os.write(heard, BOOT), os.read(said, 4096)
+    for line in front.splitlines(keepends=True):
+        os.write(heard, line), os.read(said, 4096)
     began = time.monotonic()
     for _ in range(count):
         os.write(heard, CALL)
@@ -43,15 +45,16 @@ def turns(program, count):
 def main():
     count = int(sys.argv[1]) if len(sys.argv) > 1 else 200_000
     program = sys.argv[2] if len(sys.argv) > 2 else str(PROGRAM)
+    front = OFF + BOOT if sys.argv[3:] == ["off"] else BOOT
     print(f"processes that wait for a processor, of {os.cpu_count()}: {os.getloadavg()[0]:.0f}")
     kept = []
     for name, number in (("cat", count), (program, count), (program, 2 * count)):
-        seconds, used = turns("/bin/cat" if name == "cat" else name, number)
+        seconds, used = turns("/bin/cat" if name == "cat" else name, number, front)
         own, system = used.ru_utime / number * 1e6, used.ru_stime / number * 1e6
         kept.append(used.ru_maxrss)
         print(f"{pathlib.Path(name).name}, {number} turns: {number / seconds:.0f} a second; {own:.2f} us and {system:.2f} us a turn")
     os.environ["GLIBC_TUNABLES"] = BY_VECTORS
-    once, twice = (counted(program, given=BOOT + number * CALL)[0] for number in (10_000, 20_000))
+    once, twice = (counted(program, given=front + number * CALL)[0] for number in (10_000, 20_000))
     print(f"a further call: {(twice - once) / 10_000:.0f} instructions, {(kept[2] - kept[1]) * 1024 / count:.0f} bytes resident")
 
 
