@@ -3,7 +3,7 @@
 `client` and in a conversation, what a boot costs, and the memory that is resident at most. It prints rows of tables.
 
 Instructions are counted by callgrind over N and over 2N of the same, 1,000 where N isn't given, and blocks as in playing.py; by `client`
-it is 100, as a script has at most 512 calls. Times are the shortest of some. Memory is told by GNU time (Debian's package `time`). The
+it is 100, as a script has at most 512 calls. Times are the shortest of 21. Memory is told by GNU time (Debian's package `time`). The
 second state's conversations are measured with `history off`, too. The programs are what `rt run` has built in crates/optee_run and
 crates/optee_live of either state.
 Usage: bench/side_by_side.py RUN_BEFORE RUN_AFTER LIVE_BEFORE LIVE_AFTER [N]
@@ -14,13 +14,12 @@ import struct
 import subprocess
 import sys
 import tempfile
-import time
 
 from callgrind import counted
 from playing import BY_VECTORS
 from smc_costs import ADDS, CALL, INVOKE, LOOPS, RETURNS, UUID, argument, image, invoking, param, text_of, trace
 
-BOOTS = 21  # of which the shortest is told
+BOOTS = 21  # of which the fewest seconds are told
 CLIENT_CALLS = 100
 RAM, PAGE, PAGES, LISTED = 0x40000000, 4096, 1024, 511
 REGISTER, UNREGISTER, LIST_OUT, PART_IN, MEMREF_IN, COOKIE = 4, 5, 0x20A, 5, 9, 0x33
@@ -99,17 +98,20 @@ def count_boots(runs):
     for boot in ("boot 1 1 1", "boot 8 16 1024"):
         text = text_of([boot])
         row(f"`{boot}`, instructions", lambda program: f"{counted(program, 'run', given=text)[0]:,}", runs)
-        row(f"`{boot}`, milliseconds", lambda program: f"{1000 * shortest(program, text):.2f}", runs)
+        row(f"`{boot}`, milliseconds of a processor", lambda program: f"{1000 * processor_time(program, text):.2f}", runs)
         row(f"`{boot}`, KiB", lambda program: resident(program, ["run"], text), runs)
 
 
-def shortest(program, text):
-    """The seconds from a start to its end, the fewest of some."""
+def processor_time(program, text):
+    """The seconds of a processor from a start to its end, the fewest of some."""
     times = []
     for _ in range(BOOTS):
-        began = time.monotonic()
-        subprocess.run([program, "run"], input=text, stdout=subprocess.DEVNULL, check=True)
-        times.append(time.monotonic() - began)
+        with tempfile.TemporaryFile() as read:
+            read.write(text)
+            read.seek(0)
+            process = subprocess.Popen([program, "run"], stdin=read, stdout=subprocess.DEVNULL)
+            used = os.wait4(process.pid, 0)[2]
+        times.append(used.ru_utime + used.ru_stime)
     return min(times)
 
 
