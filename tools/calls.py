@@ -2,13 +2,13 @@
 resume"). It isn't run by itself."""
 
 import collections
+import struct
 import uuid
 
 import formats
 
 NEW_CALLS = (formats.CALL_WITH_ARG, formats.CALL_WITH_RPC_ARG, formats.CALL_WITH_REGD_ARG)
 ERESUME = 3
-RAM_START, RAM_END = 0x4000_0000, 0x4040_0000
 HIGHEST_COMMAND = 5
 SESSION_AT = 8
 VERBS = {
@@ -19,12 +19,19 @@ VERBS = {
     5: "unregister of a buffer",
 }
 
-# An entry: its processor and registers; what its call asks for, and whether it passes the tests behind which it has a thread (None
-# where that isn't known); where the argument of an open is, or None.
-Brought = collections.namedtuple("Brought", "cpu registers asked begins open_at", defaults=[None])
+# The head of an argument, as far as the trace has written it: where it is, its fields by their names, the UUID that stands behind it in
+# an open, and the session in words.
+Head = collections.namedtuple("Head", "address fields uuid session")
 
-# A call in a thread: what it asks for, its client, and the processor that it is inside on, or None.
-Call = collections.namedtuple("Call", "asked client cpu")
+
+class Brought(collections.namedtuple("Brought", "cpu registers asked begins head", defaults=[None])):
+    """An entry: its processor and registers; what its call asks for; whether it passes the tests behind which it has a thread (None where
+    that isn't known); and the head of its argument, or None where that isn't known, or none can be there."""
+
+    @property
+    def open_at(self):
+        """Where the argument of an open is, or None."""
+        return self.head.address if self.begins and self.head and self.head.fields["cmd"] == 0 else None
 
 
 def brought(cpu, registers, lanes):
@@ -36,26 +43,42 @@ def brought(cpu, registers, lanes):
         return Brought(cpu, registers, "", False)
     if address % 8 or not is_in_ram(address, formats.HEAD_BYTES):
         return Brought(cpu, registers, f"no argument can be at {address:x}", False)
-    data = lanes.bytes_at(cpu, address, formats.HEAD_BYTES)
-    head = {name: int.from_bytes(data[4 * at : 4 * at + 4], "little") for at, name in enumerate(formats.HEAD)}
-    count = head["num_params"]
+    head = head_at(cpu, address, lanes)
+    count = head.fields["num_params"]
     length = formats.HEAD_BYTES + formats.PARAMETER_BYTES * count
     length += formats.AREA_BYTES if function == formats.CALL_WITH_RPC_ARG else 0
-    begins = count <= formats.MOST_PARAMETERS and is_in_ram(address, length) and head["cmd"] <= HIGHEST_COMMAND
-    return Brought(cpu, registers, asked_by(cpu, address, head, lanes), begins, address if begins and head["cmd"] == 0 else None)
+    begins = count <= formats.MOST_PARAMETERS and is_in_ram(address, length) and head.fields["cmd"] <= HIGHEST_COMMAND
+    return Brought(cpu, registers, asked_by(head), begins, head)
 
 
 def is_in_ram(address, length):
-    return RAM_START <= address and address + length <= RAM_END
+    return formats.RAM_START <= address and address + length <= formats.RAM_START + formats.RAM_BYTES
 
 
-def asked_by(cpu, address, head, lanes):
+def head_at(cpu, address, lanes):
+    """The head of the argument at an address."""
+    fields = dict(zip(formats.HEAD, struct.unpack("<8I", lanes.bytes_at(cpu, address, formats.HEAD_BYTES))))
+    application = uuid.UUID(bytes=lanes.bytes_at(cpu, address + formats.HEAD_BYTES + 8, 16))
+    session = f"session {fields['session']}" if lanes.knows(cpu, address + SESSION_AT, 4) else "the session of an open before"
+    return Head(address, fields, application, session)
+
+
+def asked_by(head):
     """What an argument asks for, in words."""
-    if head["cmd"] == 0:
-        octets = lanes.bytes_at(cpu, address + formats.HEAD_BYTES + 8, 16)
-        return f"open of {uuid.UUID(bytes=octets)}"
-    session = f"session {head['session']}" if lanes.knows(cpu, address + SESSION_AT, 4) else "the session of an open before"
-    return VERBS.get(head["cmd"], "command {cmd}").format(**head | {"session": session})
+    if head.fields["cmd"] == 0:
+        return f"open of {head.uuid}"
+    return VERBS.get(head.fields["cmd"], "command {cmd}").format(**head.fields | {"session": head.session})
+
+
+class Call:
+    """A call in a thread: what it asks for, its client, and the processor that it is inside on, or None."""
+
+    def __init__(self, thread, came):
+        self.thread, self.asked, self.client, self.cpu = thread, came.asked or "a call", came.registers[7], came.cpu
+
+
+# A processor that is inside: what it has brought, its call, or None, and why ERESUME would come.
+Inside = collections.namedtuple("Inside", "came call why", defaults=[None, ""])
 
 
 class Threads:
@@ -63,8 +86,8 @@ class Threads:
     answer names another one, the answer is right."""
 
     def __init__(self, count=None):
-        self.count, self.held = count, {}
-        self.inside = {}  # of each processor what it has brought, its thread, and why ERESUME would come
+        self.count = count
+        self.held, self.inside = {}, {}  # the calls by their threads; those Inside by their processors
 
     def enter(self, came):
         """What is said of an entry."""
@@ -75,7 +98,7 @@ class Threads:
         elif registers[0] in NEW_CALLS:
             said = self.begin(came)
         else:
-            self.inside[cpu] = came, None, ""
+            self.inside[cpu] = Inside(came)
             return name
         return f"{name} of client {registers[7]}, {said}"
 
@@ -85,8 +108,8 @@ class Threads:
         is_free = self.count is None or thread < self.count
         takes = came.begins is not False and is_free
         if takes:
-            self.held[thread] = Call(came.asked, came.registers[7], came.cpu)
-        self.inside[came.cpu] = came, thread if takes else None, ""
+            self.held[thread] = Call(thread, came)
+        self.inside[came.cpu] = Inside(came, self.held[thread] if takes else None)
         where = f"thread {thread}" if takes else "no thread" if is_free else "no thread is free"
         return f"{where if came.begins is not None or not is_free else 'a new call'}: {came.asked}"
 
@@ -95,11 +118,11 @@ class Threads:
         thread, client = came.registers[3], came.registers[7]
         why = self.refusal(thread, client)
         other = f"without a cause, as the call in thread {thread} is suspended for client {client}"
-        self.inside[came.cpu] = came, None if why else thread, why or other
-        if why:
+        call = None if why else self.held[thread]
+        self.inside[came.cpu] = Inside(came, call, why or other)
+        if call is None:
             return f"thread {thread}"
-        call = self.held[thread]
-        self.held[thread] = call._replace(cpu=came.cpu)
+        call.cpu = came.cpu
         return f"thread {thread}: goes on with {call.asked}"
 
     def refusal(self, thread, client):
@@ -109,7 +132,7 @@ class Threads:
             return f"there is no thread {thread}: they count from 0 to {self.count - 1}"
         if call is None:
             return f"thread {thread} is free"
-        if call.cpu is not None and self.inside[call.cpu][0].begins is None:
+        if call.cpu is not None and self.inside[call.cpu].came.begins is None:
             return f"thread {thread} is active, or free: processor {call.cpu} is inside with a new call, whose argument isn't known"
         if call.cpu is not None:
             return f"thread {thread} is active: its call is inside on processor {call.cpu}"
@@ -121,15 +144,25 @@ class Threads:
         """Why an exit answers ERESUME, where it does, else an empty text."""
         if cpu not in self.inside:
             return ""
-        came, thread, why = self.inside.pop(cpu)
-        call = self.held.pop(thread, None) if thread is not None else None
-        if registers[0] in formats.RPCS and (came.registers[0] in NEW_CALLS or came.registers[0] == formats.RETURN_FROM_RPC):
-            call = call or self.held.get(registers[3]) or Call(came.asked or "a call", came.registers[7], None)
-            self.held[registers[3]] = call._replace(cpu=None)
-        is_refused = came.registers[0] == formats.RETURN_FROM_RPC and registers[0] == ERESUME
-        if is_refused and call:
-            self.held[thread] = call._replace(cpu=None)
+        came, call, why = self.inside.pop(cpu)
+        is_resume = came.registers[0] == formats.RETURN_FROM_RPC
+        is_refused = is_resume and registers[0] == ERESUME
+        if call and self.held.get(call.thread) is call:
+            del self.held[call.thread]
+        if registers[0] in formats.RPCS and (is_resume or came.registers[0] in NEW_CALLS):
+            self.suspend(registers[3], call or self.held.get(registers[3]) or Call(registers[3], came))
+        elif is_refused and call:
+            self.suspend(call.thread, call)
         return why if is_refused else ""
+
+    def suspend(self, thread, call):
+        """A call is suspended in a thread."""
+        call.thread, call.cpu = thread, None
+        self.held[thread] = call
+
+    def call_on(self, cpu):
+        """The call that a processor is inside with, or None."""
+        return self.inside[cpu].call
 
 
 class Recorded:

@@ -202,11 +202,12 @@ def with_shows(trace, output):
 
 def shows_behind(visit, told):
     """The lines that show what an exit has written."""
+    at, length = None, 0
     if visit.answer == "CMD":
-        return [f"show {visit.cpu} {visit.request_at:x} 64"]
-    if visit.answer == "OK" and visit.call:
-        return [f"show {visit.cpu} {visit.call.visits[0].head.address:x} 32"]
-    return []
+        at, length = visit.request_at, 64
+    elif visit.answer == "OK" and visit.call:
+        at, length = visit.call.visits[0].argument, formats.HEAD_BYTES
+    return [f"show {visit.cpu} {at:x} {length}"] if at is not None and calls.is_in_ram(at, length) else []
 
 
 def played(trace, runner):

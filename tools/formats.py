@@ -46,6 +46,9 @@ CAPABILITIES = [
     "RPC argument",
 ]
 
+# Glossary, "Lane": the RAM of the normal world as one processor sees it
+RAM_START, RAM_BYTES = 0x4000_0000, 0x40_0000
+
 # Message argument
 HEAD_BYTES = PARAMETER_BYTES = 32
 MOST_PARAMETERS = 6

@@ -39,13 +39,13 @@ import lift
 import places
 import plays
 import program
+from formats import RAM_BYTES, RAM_START
 from supplicant import Supplicant
 from words import BadWords, octets, plain, run, text_of
 
 MOST_SHOWN, MOST_STEPS = 4096, 1_000_000
 PATIENCE = 60  # seconds that an answer may take
 PIPE_BYTES = 1 << 16  # read at once
-RAM_START, RAM_BYTES = 0x4000_0000, 0x40_0000
 
 # The lines of an answer, and the one that ends it.
 Answer = collections.namedtuple("Answer", "lines ending")

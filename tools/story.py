@@ -18,7 +18,6 @@ class Visit:
 
     def __init__(self, cpu, registers, lanes):
         self.cpu, self.registers = cpu, registers
-        self.head = Head(lanes, cpu, registers)
         self.came = calls.brought(cpu, registers, lanes)
         self.called, self.why = "", ""  # all that is said of the entry, and why the exit answers ERESUME
         self.ram = lanes.copy(cpu)  # what was written into the processor's RAM before the entry, by the addresses
@@ -48,34 +47,30 @@ class Visit:
             return formats.RPCS[a0]
         return formats.CODES.get(a0, "OK") if self.function in formats.FUNCTIONS else "UNKNOWN_FUNCTION"
 
-
-class Head:
-    """The head of the argument that a call brings, as far as the trace has written it, and the bytes behind."""
-
-    def __init__(self, lanes, cpu, registers):
-        self.address = registers[1] << 32 | registers[2]
-        bytes_at = lanes.bytes_at(cpu, self.address, messages.ARGUMENT_BYTES)
-        fields = [int.from_bytes(bytes_at[4 * i : 4 * i + 4], "little") for i in range(8)]
-        self.fields = dict(zip(formats.HEAD, fields))
-        self.application = bytes_at[formats.HEAD_BYTES + 8 :][:16].hex()[:8]
-
-    def text(self):
-        """The call that it asks for, in a few words: what, and of which session."""
-        verb = VERBS.get(formats.COMMANDS.get(self.fields["cmd"], ""), "command")
-        if verb == "open":
-            return verb, self.application
-        if verb in ("invoke", "close", "cancel"):
-            return verb, f"session {self.fields['session']}"
-        return verb, ""
+    @property
+    def argument(self):
+        """The address of the argument of a new call, or None where it isn't known."""
+        return self.came.head.address if self.came.head else None
 
 
 class Call:
-    """A call: its slot from its entry to the exit that answers OK, and what it asked for at each exit."""
+    """A call: its slot from its entry to the exit that answers OK, and the visits in which it was worked on."""
 
-    def __init__(self, slot, visit):
-        self.slot, self.text, self.first, self.last = slot, head_text(visit), visit.entry, None
-        self.asked, self.client = visit.came.asked, visit.registers[7]
+    def __init__(self, held, visit):
+        self.held, self.text, self.first, self.last = held, head_text(visit), visit.entry, None
         self.visits = []
+
+    @property
+    def slot(self):
+        return self.held.thread
+
+    @property
+    def asked(self):
+        return self.held.asked
+
+    @property
+    def client(self):
+        return self.held.client
 
 
 def visits_of(trace, output):
@@ -167,28 +162,28 @@ class Story:
     def __init__(self, visits, threads=None):
         self.visits = [visit for visit in visits if visit.answered]
         self.threads = calls.Threads(threads)
-        self.calls, self.held, self.buffers, self.pending = [], {}, {}, {}
+        self.drawn = {}  # the Calls by those of the threads
+        self.buffers, self.pending, self.places = {}, {}, {}  # by their slots: lent buffers, what was asked, and where requests stand
         events = [(visit.entry, self.entered, visit) for visit in self.visits]
         events += [(visit.exit, self.left, visit) for visit in self.visits]
         self.length = max((place for place, *_ in events), default=-1) + 1
         for _, happens, visit in sorted(events, key=lambda event: event[0]):
             happens(visit)
 
+    @property
+    def calls(self):
+        return list(self.drawn.values())
+
     def entered(self, visit):
-        """A new call takes the lowest free slot, and a resume goes on with the call of its slot."""
-        visit.said, visit.called = self.entry_text(visit), self.threads.enter(visit.came)
-        if visit.is_new_call and visit.answer not in REFUSED:
-            slot = next(number for number in range(2**32) if number not in self.held)
-            call = self.held[slot] = Call(slot, visit)
-            self.calls.append(call)
-        elif visit.is_resume and visit.answer != "ERESUME":
-            slot = visit.registers[3]
-            call = self.held.get(slot)
-        else:
+        """A processor comes in with a call, or with none. That a new call passes its tests is known by its answer."""
+        came = visit.came._replace(begins=visit.answer not in REFUSED) if visit.is_new_call else visit.came
+        visit.said, visit.called = self.entry_text(visit), self.threads.enter(came)
+        held = self.threads.call_on(visit.cpu)
+        if held is None:
             return
-        visit.slot, visit.call = slot, call
-        if call:
-            call.visits.append(visit)
+        visit.call = self.drawn.setdefault(held, Call(held, visit))
+        visit.slot = held.thread
+        visit.call.visits.append(visit)
 
     def entry_text(self, visit):
         """What an entry says: its function, and of a call or a return some more."""
@@ -206,54 +201,64 @@ class Story:
             address = self.buffers[slot] = visit.registers[1] << 32 | visit.registers[2]
             return f"lends {address:x}" if address else "lends none"
         if asked == "CMD Time" or str(asked).startswith("CMD Fs"):
-            address = self.buffers.get(slot, 0) + RET_AT
-            ret = [visit.ram.get(at) for at in range(address, address + 4)]
-            return messages.result_name(int.from_bytes(ret, "little")) if None not in ret else ""
+            place = self.places[slot]
+            ret = number_in(visit.ram, place + RET_AT, 4) if place is not None else None
+            return messages.result_name(ret) if ret is not None else ""
         return ""
 
     def left(self, visit):
         """What an exit says: the answer, a request by its name, a result where it was shown."""
         visit.given, visit.why = self.exit_text(visit), self.threads.leave(visit.cpu, visit.answered)
-        if visit.slot is None:
+        if visit.call is None:
             return
-        self.pending[visit.slot] = visit.given
-        if visit.answer == "OK" and visit.call:
+        visit.slot = visit.call.slot
+        self.pending[visit.slot], self.places[visit.slot] = visit.given, visit.request_at
+        if visit.answer == "OK":
             visit.call.last = visit.exit
-            del self.held[visit.slot]
             self.buffers.pop(visit.slot, None)
 
     def exit_text(self, visit):
         if visit.answer == "CMD":
             return f"CMD {self.request_name(visit)}".rstrip()
         if visit.answer == "OK" and visit.call:
-            result = number_in(visit.asked, visit.call.visits[0].head.address + RET_AT, 4)
+            argument = visit.call.visits[0].argument
+            result = number_in(visit.asked, argument + RET_AT, 4) if argument is not None else None
             return "OK" if result is None else f"OK {messages.result_name(result)}"
         return visit.answer
 
     def request_name(self, visit):
         """The name of a request, as far as it was shown: the buffer's, or of a call with an area that of its area."""
         address = visit.request_at = self.request_address(visit)
+        if address is None:
+            return ""
         command, p = number_in(visit.asked, address, 4), number_in(visit.asked, address + P_AT, 8)
         name = formats.REQUESTS.get((command, None)) or formats.REQUESTS.get((command, p))
         key = number_in(visit.asked, address + P_AT + 8, 8)
         if name in ("Sleep", "Wake") and key is not None:
             return f"{name} {key}"
+        if name == "Suspend" and p is not None:
+            return f"{name} {p} ms"
         return name or formats.RPC_COMMANDS.get(command, "")
 
     def request_address(self, visit):
-        """Where a request stands: in the lent buffer, or, where its cookie is 0, in the call's area."""
-        head = visit.call.visits[0].head if visit.call else visit.head
-        if visit.answered[1:3] == [0, 0]:
+        """Where a request stands: in the lent buffer, or, where its cookie is 0, in the call's area; None where that isn't known."""
+        head = visit.call.visits[0].came.head if visit.call else None
+        if head and visit.answered[1:3] == [0, 0]:
             return head.address + formats.HEAD_BYTES + formats.PARAMETER_BYTES * head.fields["num_params"]
-        return self.buffers.get(visit.slot, 0)
+        return self.buffers.get(visit.slot)
 
 
 def head_text(visit):
-    """What a new call asks for; where its argument isn't at an address at which the core has read one, its function."""
-    if visit.answer == "EBADADDR" or visit.function == formats.CALL_WITH_REGD_ARG:
+    """What a new call asks for, in a few words: what, and of which session. Where the core has read no argument at its address, or it
+    isn't known where that is, it is the function."""
+    head = visit.came.head
+    if visit.answer == "EBADADDR" or head is None:
         what = "cookie" if visit.function == formats.CALL_WITH_REGD_ARG else "at"
-        return formats.FUNCTIONS[visit.function], f"{what} {visit.head.address:x}"
-    return visit.head.text()
+        return formats.FUNCTIONS[visit.function], f"{what} {visit.registers[1] << 32 | visit.registers[2]:x}"
+    verb = VERBS.get(formats.COMMANDS.get(head.fields["cmd"], ""), "command")
+    if verb == "open":
+        return verb, str(head.uuid)[:8]
+    return verb, head.session if verb in ("invoke", "close", "cancel") else ""
 
 
 def number_in(known, address, size):
