@@ -20,7 +20,7 @@ VERBS = {
 }
 
 # The head of an argument, as far as the trace has written it: where it is, its fields by their names, the UUID that stands behind it in
-# an open, and the session in words.
+# an open, or None, and the session in words.
 Head = collections.namedtuple("Head", "address fields uuid session")
 
 
@@ -58,7 +58,7 @@ def is_in_ram(address, length):
 def head_at(cpu, address, lanes):
     """The head of the argument at an address."""
     fields = dict(zip(formats.HEAD, struct.unpack("<8I", lanes.bytes_at(cpu, address, formats.HEAD_BYTES))))
-    application = uuid.UUID(bytes=lanes.bytes_at(cpu, address + formats.HEAD_BYTES + 8, 16))
+    application = uuid.UUID(bytes=lanes.bytes_at(cpu, address + formats.HEAD_BYTES + 8, 16)) if fields["num_params"] else None
     session = f"session {fields['session']}" if lanes.knows(cpu, address + SESSION_AT, 4) else "the session of an open before"
     return Head(address, fields, application, session)
 
@@ -66,7 +66,7 @@ def head_at(cpu, address, lanes):
 def asked_by(head):
     """What an argument asks for, in words."""
     if head.fields["cmd"] == 0:
-        return f"open of {head.uuid}"
+        return f"open of {head.uuid or 'no application'}"
     return VERBS.get(head.fields["cmd"], "command {cmd}").format(**head.fields | {"session": head.session})
 
 

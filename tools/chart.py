@@ -8,7 +8,8 @@ dark while a processor works on it and light while it is suspended; it is stripe
 Requests and results have names where the trace shows their bytes, and ERESUME its cause. Over a box or a bar a viewer shows the call's
 function, client, thread and session; a bar has them where there is room.
 
-A trace with signals, a script of a client or for lift.py, a play that was refused, and one without a call aren't drawn.
+A trace with signals, a script of a client (of which client_trace.py writes a trace) or for lift.py, a play that was refused, and one without a
+call aren't drawn.
 
 --perfetto FILE writes the same as events for the viewers of Chrome (chrome://tracing) and Perfetto (ui.perfetto.dev): processors and slots
 are their threads, and a place in the history is a microsecond.
@@ -232,7 +233,7 @@ def refuse_others(trace):
         if word == "signal":
             raise plays.Mismatch(f"line {place}: a trace with signals isn't drawn: it has no place for them")
         if word in plays.CLIENT_CALLS:
-            raise plays.Mismatch(f"line {place}: a client's script isn't drawn: a trace of its calls would be")
+            raise plays.Mismatch(f"line {place}: a client's script isn't drawn: client_trace.py writes a trace of its calls, which is")
         plays.refuse_script(place, line)
 
 

@@ -25,6 +25,7 @@ import bench_test
 import chart
 import client
 import client_test
+import client_trace
 import conversations
 import documented
 import expected
@@ -33,6 +34,7 @@ import formats
 import image
 import journal
 import lift
+import live
 import pages
 import places
 import plays
@@ -457,6 +459,66 @@ def check_runner(comparison):
         comparison.same("bench_test.py at no test", tool("bench_test.py", known, folder)[0], bench_test.NO_CASE)
 
 
+class Given(live.Conversation):
+    """A conversation whose answers are given."""
+
+    def __init__(self, answers):  # pylint: disable=super-init-not-called
+        self.answers, self.said = collections.deque(answers), []
+
+    def ask(self, line):
+        self.said.append(line)
+        answer = self.answers.popleft() if self.answers else None
+        return [answer] if answer else []
+
+
+def check_client_traces(comparison):
+    """The calls of a script as they are said to a core; and a conversation that is kept as a trace."""
+    lines = lift.placed(expected.CLIENT_SCRIPT, shipped.SCRIPTS)
+    digits = lines[2][1].split(" ")[2]
+    turns = [(line.replace("{image}", digits), answer) for line, answer in expected.CLIENT_TURNS]
+    talk = Given(answer for _, answer in turns)
+    client_trace.play(lines, talk)
+    comparison.same("client_trace.py", talk.said, [line for line, _ in turns])
+    with tempfile.TemporaryDirectory() as folder:
+        path = pathlib.Path(folder, "kept.trace")
+        log = live.Log(path)
+        for line, wanted in expected.KEPT.items():
+            if live.is_of_trace(line):
+                log.take(line)
+            comparison.same(f"live.py log=FILE behind {line}", shipped.read(path), wanted)
+
+
+def check_by_talker(comparison, talker):
+    """By a program of conversations the calls of the shipped scripts, and of the cases of clients, come to what these print."""
+    for play in [*client_plays(), *shipped.worked_cases("client")]:
+        said, fault = client_said(play.trace, talker)
+        if play.status == 3:
+            comparison.same(f"client_trace.py at {play.name}", fault is not None or play.output.endswith(" cut\n"), True)
+        else:
+            comparison.same(f"client_trace.py at {play.name}", (said, fault is None), (play.output, play.status == 0))
+
+
+def client_said(script, talker):
+    """The lines that stand in a script's trace as those that `client` prints, and the fault at which it ends, or None."""
+    said, fault = [], None
+    try:
+        with live.Conversation(talker, heard=lambda line, answer: said.append(line)) as talk:
+            client_trace.play([*enumerate(script.splitlines(), 1)], talk)
+    except (lift.Fault, live.Refused) as refused:
+        fault = refused
+    return "".join(f"{line[2:]}\n" for line in said if re.fullmatch("# [a-z]+ [a-z]+ [0-9a-f]{8} [0-9a-f]{8}( .*)?", line)), fault
+
+
+def client_plays():
+    """The shipped scripts of clients, as they are without their wanted lines and with these."""
+    yield expected_play(shipped.EXAMPLES / "storage_and_cancel.client")
+    for shown in shipped.applications_in_c():
+        name = shown.folder.name
+        script = lift.lifted(shipped.read(shown.folder / f"{name}.client"), shown.folder)
+        wanted = "".join(f"{call.wanted}\n" for call in client_test.calls_of(script))
+        yield shipped.Play(f"{name}.client", script, wanted, 0)
+
+
 def expected_play(path):
     """A shipped example with its output."""
     return shipped.Play(path.stem, shipped.read(path), shipped.read(path.with_suffix(".out")), 0)
@@ -566,10 +628,10 @@ def check_by_program(comparison, file):
         comparison.same(f"client_test.py {path.name}", lines[1:] or is_as_wanted, True)
 
 
-def check_pages(comparison, file=None, live=None):
+def check_pages(comparison, file=None, talker=None):
     """The commands of the tutorials, and those of other pages that show some."""
     runner = pathlib.Path(file).resolve() if file else FOLDER / "known.py"
-    talker = pathlib.Path(live).resolve() if live else FOLDER / "known_live.py"
+    talker = pathlib.Path(talker).resolve() if talker else FOLDER / "known_live.py"
     for path in sorted((shipped.ROOT / "docs").glob("*.md")):
         for shown, given in pages.run_page(path, runner, talker):
             what = f"{path.name} line {shown.line}: {shown.command}"
@@ -624,6 +686,7 @@ CHECKS = [
     check_machine,
     check_clients,
     check_runner,
+    check_client_traces,
     check_applications_in_c,
     check_scripts,
     check_conversations,
@@ -635,19 +698,21 @@ CHECKS = [
 
 def main(words):
     words = list(words)
-    file, live = program.taken_from(words), program.taken_from(words, "live")
+    file, talker = program.taken_from(words), program.taken_from(words, "live")
     if words:
         raise BadWords()
-    for name, named in (("optee_run", file), ("optee_live", live)):
+    for name, named in (("optee_run", file), ("optee_live", talker)):
         if named:
             program.found(name, named)
     comparison = Comparison()
     for check in CHECKS:
         check(comparison)
-    check_pages(comparison, file, live)
+    check_pages(comparison, file, talker)
     if file:
         check_by_program(comparison, file)
-    if not live:
+    if talker:
+        check_by_talker(comparison, talker)
+    else:
         print("no live=FILE: conversations are answered by the shipped cases alone")
     print(f"{comparison.compared} compared, {comparison.differing} differ")
     return 1 if comparison.differing else 0

@@ -392,6 +392,67 @@ CLIENT_TESTS = {
     f"open s {FIRST}\n#= open s 00000000 00000004\n": ("bad trace 1 place\n", 3, ["  bad trace 1 place"]),
 }
 
+# A script of a client whose application waits, and is cancelled then; and what client_trace.py says of it to a core, each line with what the
+# core answers, if it answers lines, as docs/formats.md has the client's RAM, the requests of a call and its end.
+CLIENT_SCRIPT = f"""image waits ../../examples/applications/wait_unmasked.hex
+# A wait.
+boot 1 2 1
+ta {FIRST} $waits
+open s {FIRST}
+#= open s SUCCESS TRUSTED_APP
+invoke s fa cancel:2 vo
+"""
+CLIENT_OPEN = (  # of cancel id 1
+    ("00000000 00000000 00000000 01000000 00000000 00000000 00000000 02000000" + "0101000000000000 1111111122223333 4444555555555555")
+    + NO_BYTES + "0101000000000000" + 3 * NO_BYTES
+).replace(" ", "")
+CLIENT_INVOKE = ("01000000 fa000000 01000000 01000000 00000000 00000000 00000000 01000000" + "0200000000000000" + 3 * NO_BYTES).replace(" ", "")
+CLIENT_CANCEL = "03000000 00000000 01000000 01000000 00000000 00000000 00000000 00000000".replace(" ", "")
+SUSPEND = ("05000000 00000000 00000000 00000000 00000000 0000ffff 00000000 01000000" + "0100000000000000 fa00000000000000").replace(" ", "") + 2 * NO_BYTES
+OK = "ret 0" + 8 * " 00000000"
+RETURNED = "smc 0 10000 32000003 0 0 0 0 0 0 0"
+CALLED = "smc 0 10000 32000004 0 {address} 0 0 0 0 0"
+CLIENT_TURNS = [
+    ("# A wait.", None),
+    ("boot 1 2 1", None),
+    (f"ta {FIRST} {{image}}", None),
+    (f"# open s {FIRST}", None),
+    ("write 0 40000000 " + CLIENT_OPEN, None),
+    (CALLED.format(address="40000000"), OK),
+    ("show 0 40000000 96", "mem 0 40000000 " + CLIENT_OPEN[:16] + "01000000" + CLIENT_OPEN[24:40] + "0000000004000000" + CLIENT_OPEN[56:]),
+    ("# open s 00000000 00000004", None),
+    ("# invoke s fa cancel:2 vo", None),
+    ("write 0 40000000 " + CLIENT_INVOKE, None),
+    (CALLED.format(address="40000000"), "ret 0 ffff0000 00001000" + 6 * " 00000000"),
+    ("# return 1 of invoke s: ALLOC", None),
+    ("smc 0 10000 32000003 0 40010000 0 0 1 0 0", "ret 0 ffff0005 00000000 00000001 00000000 00000000 00000001 00000000 00000000"),
+    ("# return 2 of invoke s: CMD", None),
+    ("# a cancel of invoke s", None),
+    ("write 0 40001000 " + CLIENT_CANCEL, None),
+    (CALLED.format(address="40001000"), OK),
+    ("show 0 40010000 128", "mem 0 40010000 " + SUSPEND + 192 * "0"),
+    ("write 0 40010014 00000000", None),
+    (RETURNED, "ret 0 ffff0002 00000000 00000001" + 5 * " 00000000"),
+    ("# return 3 of invoke s: FREE", None),
+    (RETURNED, OK),
+    ("show 0 40000000 64", "mem 0 40000000 " + CLIENT_INVOKE[:40] + "0200ffff04000000" + CLIENT_INVOKE[56:]),
+    ("# invoke s ffff0002 00000004 v:00000000:00000000", None),
+]
+
+# Lines of a conversation that were taken, and the trace that is kept behind each.
+KEPT = {
+    "# two processors": "# two processors\n",
+    "boot 2 1 1": "# two processors\nboot 2 1 1\n",
+    "watch on": "# two processors\nboot 2 1 1\n",
+    "enter 1 9 b2000000": "# two processors\nboot 2 1 1\nenter 1 9 b2000000\nleave 1\n",
+    "state": "# two processors\nboot 2 1 1\nenter 1 9 b2000000\nleave 1\n",
+    "signal 3": "# two processors\nboot 2 1 1\nenter 1 9 b2000000\nsignal 3\nleave 1\n",
+    "enter 0 1 0": "# two processors\nboot 2 1 1\nenter 1 9 b2000000\nsignal 3\nenter 0 1 0\nleave 1\nleave 0\n",
+    "leave 1": "# two processors\nboot 2 1 1\nenter 1 9 b2000000\nsignal 3\nenter 0 1 0\nleave 1\nleave 0\n",
+    "leave 0": "# two processors\nboot 2 1 1\nenter 1 9 b2000000\nsignal 3\nenter 0 1 0\nleave 1\nleave 0\n",
+    "history off": "# two processors\nboot 2 1 1\nenter 1 9 b2000000\nsignal 3\nenter 0 1 0\nleave 1\nleave 0\n",
+}
+
 # Words that each tool has to refuse, and scripts that lift.py has to refuse at their second line.
 BAD_WORDS = {
     "arg.py": [
@@ -425,10 +486,11 @@ BAD_WORDS = {
     "chart.py": ["", "a b c", "program=no_such_file a", "no_such_file no_such_file"],
     "client_test.py": ["", "program=no_such_file examples"],
     "bench_test.py": ["", "program=no_such_file examples", "no_such_file", "-j"],
+    "client_trace.py": ["", "a b", "program=no_such_file README.md", "steps=0 README.md", "steps=x README.md"],
     "known.py": [""],
     "known_live.py": ["x"],
-    "live.py": ["x", "serve serve", "program=no_such_file", "boot=no_such_file"],
-    "live_test.py": ["x", "program=no_such_file", "turns=999", "turns=many"],
+    "live.py": ["x", "serve serve", "program=no_such_file", "boot=no_such_file", "log=no_such_folder/x"],
+    "live_test.py": ["x", "program=no_such_file"],
     "step.py": ["", "-", "- opens", "- invoke", "- invoke x", "- close vo", "- invoke 0 vi:1", "- open mi:", "- open r16=0"],
 }
 # Calls on a supplicant's files, one after the other, and what each gives.

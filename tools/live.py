@@ -12,6 +12,8 @@ Words, in any order:
                 answer says, as annotate.py does, with the cause of ERESUME, and of a panic that is watched what its code is; with `script`
                 by the maps beside the images' files, at which lines of the source it comes
     boot=FILE   the core is booted by a boot description (embed/teec/README.md), before the first line
+    log=FILE    the conversation is kept in a file as a trace, for `run`, or with signals for `notify`: the lines that the program has
+                taken, without questions, and at the end a `leave` of each processor that is inside
 The program is the one of program=FILE, of the description, or what `rt run` has built in crates/optee_live.
 
 With `serve` a call that sleeps, because a call that is inside or left suspended holds its instance, stays so, and goes on behind the next
@@ -19,7 +21,7 @@ line of a call.
 
 Status: that of the program, which is 0 where its input is over; 1 where it ends before with 0, gives no answer within 60 seconds, or answers
 otherwise than a conversation; 2 at other words, or a description that is wrong.
-usage: live.py [program=FILE] [boot=FILE] [script] [serve] [notes]
+usage: live.py [program=FILE] [boot=FILE] [log=FILE] [script] [serve] [notes]
 """
 
 import collections
@@ -101,14 +103,43 @@ TOLD = {"smc": EXIT, "leave": EXIT, "show": ("mem [0-9]+ [0-9a-f]{8} [0-9a-f]+",
 TOLD |= {question: (ANY, ANY) for question in ("state", "session", "buffer", "events")}
 
 
+def is_of_trace(line):
+    """Whether a line is one of a trace, with or without signals, and no question."""
+    word = line.split(" ")[0]
+    return not line or line[0] == "#" or word == "signal" or word in formats.LINES
+
+
+class Log:
+    """A file that keeps the lines of a conversation as a trace. It is a whole one at each moment: behind its lines each processor that is
+    inside leaves."""
+
+    def __init__(self, path):
+        self.file, self.inside, self.end = open(path, "wb"), [], 0
+
+    def take(self, line):
+        """Keeps a line that was taken."""
+        word, cpu = [*line.split(" "), ""][:2]
+        if word == "enter":
+            self.inside.append(cpu)
+        elif word == "leave":
+            self.inside.remove(cpu)
+        self.file.seek(self.end)
+        self.file.truncate()
+        self.end += self.file.write(line.encode("latin-1") + b"\n")
+        self.file.write("".join(f"leave {cpu}\n" for cpu in self.inside).encode("latin-1"))
+        self.file.flush()
+
+
 class Conversation:
-    """A conversation with a core of its own, whose program has so many seconds for each answer. `heard`, where it is given, is called with each line and its answer. With `watch` exits
+    """A conversation with a core of its own, whose program has so many seconds for each answer. `heard`, where it is given, is called with
+    each line and its answer, and `log` is the path of a file that keeps the conversation as a trace. With `watch` exits
     are watched, and `ram` has a copy of each processor's RAM, which is behind each answer what the core sees, up to a line
     `watch off`; else it is None. Meanwhile `panic` has the code of the panic in which the call of the last exit has ended, or None.
     Without `history` the core keeps none, and its life has no limit."""
 
-    def __init__(self, file=None, heard=None, watch=False, history=True, patience=PATIENCE):
+    def __init__(self, file=None, heard=None, watch=False, history=True, patience=PATIENCE, log=None):
         self.heard, self.ram, self.panic, self.patience = heard, None, None, patience
+        self.log = Log(log) if log else None
         self.file, self.read_ahead = program.found("optee_live", file), b""
         self.process = program.started(self.file, stdin=subprocess.PIPE, stdout=subprocess.PIPE)
         if watch:
@@ -144,6 +175,8 @@ class Conversation:
         answer = self.answer(line.partition(" ")[0])
         if self.ram is not None and answer.ending == "ok":
             self.copy(line, answer)
+        if self.log and answer.ending == "ok" and is_of_trace(line):
+            self.log.take(line)
         if self.heard:
             self.heard(line, answer)
         return answer
@@ -339,9 +372,9 @@ def number(name, word):
 class Prompt:
     """Takes lines as a reader types them, and prints what comes of them."""
 
-    def __init__(self, file, options):
+    def __init__(self, file, options, log=None):
         self.options = options
-        self.talk = Conversation(file, self.heard)
+        self.talk = Conversation(file, self.heard, log=log)
         self.play, self.number = plays.Play(), 0
         self.script, self.driver = lift.Script(pathlib.Path()), Driver(self.talk)
         self.inside, self.asleep = set(), []  # processors that are inside; calls that sleep
@@ -502,13 +535,16 @@ def described_by(path):
 
 def main(words):
     words = list(words)
-    file, path = program.taken_from(words), program.taken_from(words, "boot")
+    file, path, log = (program.taken_from(words, name) for name in ("program", "boot", "log"))
     for word in words:
         if word not in OPTIONS or words.count(word) > 1:
             raise BadWords(f"{word} isn't served here, or stands twice: the words are {', '.join(OPTIONS)}")
     described = described_by(path) if path is not None else None
     signal.signal(signal.SIGPIPE, signal.SIG_IGN)  # a program that has ended is told by its status
-    prompt = Prompt(file or described and described.program, words)
+    try:
+        prompt = Prompt(file or described and described.program, words, log)
+    except OSError as error:
+        raise BadWords(f"{log}: {error.strerror}") from error
     return prompt.hold(described)
 
 

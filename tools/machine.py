@@ -4,10 +4,13 @@ It is written from that page alone, step by step, so that what it does can be co
 """
 
 import collections
+import re
 
 import formats
 import objects
 
+PARAMETER = re.compile("none|vo|(vi|vio):[0-9a-fA-F]{1,8}:[0-9a-fA-F]{1,8}|(mi|mio):([0-9a-fA-F]{2})+|mo:[1-9][0-9]{0,4}")
+MOST_PARAMETER_BYTES = 65_536
 PAGE_BYTES, BUFFERS_APART, MOST_CALLS = 4096, 0x10000000, 64
 PANICS = {
     1: "an address outside the memory and the buffers, or bytes that leave them",
@@ -281,14 +284,13 @@ CALLS = {
 
 def parameter_of(word):
     """A parameter of a client's script, `vi:5:7`, or None where the word is none."""
-    form, *operands = word.split(":")
-    forms = {"vi": "in", "vo": "out", "vio": "inout", "mi": "in", "mo": "out", "mio": "inout"}
+    if not PARAMETER.fullmatch(word):
+        return None
     if word == "none":
         return Parameter()
-    if form not in forms:
-        return None
+    form, *operands = word.split(":")
+    way = {"i": "in", "o": "out", "io": "inout"}[form[1:]]
     if form[0] == "v":
-        numbers = [int(operand, 16) for operand in operands] if operands else (0, 0)
-        return Parameter("value", forms[form], numbers)
+        return Parameter("value", way, [int(operand, 16) for operand in operands] or (0, 0))
     data = bytes(int(operands[0])) if form == "mo" else bytes.fromhex(operands[0])
-    return Parameter("memref", forms[form], data=data)
+    return Parameter("memref", way, data=data) if len(data) <= MOST_PARAMETER_BYTES else None

@@ -34,7 +34,6 @@ from words import BadWords, hexadecimal, octets, run, text_of
 
 MOST_STEPS = 10_000
 APPLICATION = "00000000-0000-0000-0000-000000000000"
-PARAMETER = "none|v[io]o?:[0-9a-fA-F]{1,8}:[0-9a-fA-F]{1,8}|vo|mi?o?:([0-9a-fA-F]{2})+|mo:[1-9][0-9]{0,4}"
 
 # An entry point that is to be run: its name, its first registers, those that are set, its parameters, and the flag.
 Run = collections.namedtuple("Run", "entry registers changed parameters is_cancelled")
@@ -69,7 +68,7 @@ def operands_of(words, most):
             changed[int(register[1])] = int(register[2], 16)
         elif word == "cancelled":
             flags.append(word)
-        elif re.fullmatch(PARAMETER, word) and machine.parameter_of(word) and len(parameters) < most:
+        elif machine.parameter_of(word) and len(parameters) < most:
             parameters.append(machine.parameter_of(word))
         else:
             raise BadWords(f"{word} is no parameter here (none, vi:A:B, vo, vio:A:B, mi:HEX, mo:LEN, mio:HEX), no register r0=HEX to r15=HEX, and not cancelled")

@@ -257,7 +257,7 @@ def head_text(visit):
         return formats.FUNCTIONS[visit.function], f"{what} {visit.registers[1] << 32 | visit.registers[2]:x}"
     verb = VERBS.get(formats.COMMANDS.get(head.fields["cmd"], ""), "command")
     if verb == "open":
-        return verb, str(head.uuid)[:8]
+        return verb, str(head.uuid or "")[:8]
     return verb, head.session if verb in ("invoke", "close", "cancel") else ""
 
 
