@@ -3,8 +3,11 @@
 
 What a file is, the end of its name says. A folder's files of these names are run, in the order of their names:
     .trace .script   a trace, or a script from which lift.py makes one; by the word `run`
+    .threads         the same by `threads`, whose lines may come in another order each time: `..` leaves out their places. In a folder
+                     NAME.threads beside NAME.trace is what `threads` has printed of that, and no test
     .signals         a trace with signals, or such a script; by `notify`
-    .client          a script of a client; by `client`
+    .client          a script of a client; by `client`. Of a call that has ended in a panic stand the code and the place, as the machine's
+                     tables have them, and by the map beside the image's file the function, file and line of the source
     .lines           a conversation, as live.py takes it with `script`, and where a line `#! serve` stands, with `serve`
     .journal         the bytes of a journal; `audit` has to find it legal
 A comment `#= LINE` behind an item says what the item has to print, `#= = NOTE` what annotate.py has to say of that. `..` at the end leaves
@@ -32,17 +35,20 @@ import sys
 import time
 import xml.etree.ElementTree
 
-import client_test
+import arg
+import client
 import formats
 import lift
 import live
+import places
 import plays
 import program
 from words import BadWords, number, plain, run, text_of
 
-WORDS = {".trace": "run", ".script": "run", ".signals": "notify", ".client": "client", ".lines": None, ".journal": "audit"}
+WORDS = {".trace": "run", ".script": "run", ".threads": "threads", ".signals": "notify", ".client": "client", ".lines": None, ".journal": "audit"}
 MARK, SERVE, REST, NOTE = "#=", "#! serve", "..", "= "
 ANSWERS = {name: code for table in (formats.CODES, formats.RPCS) for code, name in table.items()}
+ORIGINS = {name: origin for origin, name in formats.ORIGINS.items()}
 NO_CASE = 5
 
 # What differs at a line of a file: its number and text, what was wanted and what came, each as lines, and what differs by name.
@@ -62,7 +68,10 @@ def compared(wanted, printed):
     """The failure of a printed line that is another than the wanted one, or None."""
     is_note = wanted.startswith(NOTE)
     came = NOTE + (printed.note or "") if is_note else printed.line
-    full = wanted if is_note else in_digits(wanted)
+    try:
+        full = wanted if is_note else in_digits(wanted)
+    except BadWords as error:
+        return Failure(printed.place, printed.text, [wanted, str(error)], [printed.line, *told(printed.note)])
     if full == came or full.endswith(REST) and came.startswith(full.removesuffix(REST)):
         return None
     got = [printed.line, *told(printed.note)]
@@ -77,13 +86,25 @@ def told(note):
 def in_digits(line):
     """A wanted line with its names as digits."""
     words = line.split(" ")
-    tables = {"ret": [(2, ANSWERS)]}.get(words[0], [])
+    tables = {"ret": [(2, ANSWERS, "answer")]}.get(words[0], [])
     if words[0] in plays.CLIENT_CALLS:
-        tables = [(2, client_test.RESULTS), (3, client_test.ORIGINS)]
-    for place, table in tables:
-        if len(words) > place and words[place] in table:
-            words[place] = f"{table[words[place]]:08x}"
+        tables = [(2, arg.RESULTS, "result"), (3, ORIGINS, "origin")]
+    for place, table, what in tables:
+        if len(words) > place and not words[place].endswith(REST):
+            words[place] = digits_of(words[place], table, what)
     return " ".join(words)
+
+
+def digits_of(word, table, what):
+    """The eight digits of a word, which are its own, or those of a name in a table."""
+    if word not in table and number_of(word) is None:
+        raise BadWords(f"{word} is no {what} of docs/formats.md, and no eight digits")
+    return f"{table[word]:08x}" if word in table else word
+
+
+def number_of(digits):
+    """The number of eight lower-case hexadecimal digits, or None."""
+    return int(digits, 16) if re.fullmatch("[0-9a-f]{8}", digits) else None
 
 
 def differing(wanted, came):
@@ -92,15 +113,14 @@ def differing(wanted, came):
     named = [f"{name_of(pairs[0][1], place)}: {valued(pairs[0][1], place, old, new)}" for place, (old, new) in enumerate(pairs) if old != new]
     more = len(came.split()) - len(wanted.split())
     if more and not wanted.endswith(REST):
-        named.append(f"{abs(more)} words {'more' if more > 0 else 'fewer'} came")
+        named.append(f"{abs(more)} word{'s' if abs(more) > 1 else ''} {'more' if more > 0 else 'fewer'} came")
     return "; ".join(named)
 
 
 def name_of(word, place):
     """The name of a word in a line of this first word."""
-    if word == "ret" and place > 1:
-        return f"a{place - 2}"
     names = {"mem": ["line", "processor", "address", "bytes"]}
+    names["ret"] = ["line", "processor", *(f"a{k}" for k in range(8)), "word at", "place of the entry", "place of the exit"]
     if word in plays.CLIENT_CALLS:
         names[word] = ["call", "session", "result", "origin"]
     return [*names.get(word, []), *(f"parameter {k}" if word in plays.CLIENT_CALLS else f"word {k}" for k in range(9))][place]
@@ -117,7 +137,7 @@ def valued(word, place, wanted, came):
 
 
 def named_value(table, word):
-    value = client_test.number_of(word)
+    value = number_of(word)
     return f"{word} ({table[value]})" if value in table else word
 
 
@@ -144,19 +164,40 @@ def play(path, word, runner):
     lines = lift.placed(text, pathlib.Path(path).parent)
     trace = "".join(f"{line}\n" for _, line in lines)
     done = runner.run([word], trace)
-    refused = client_test.refusal_of(done, lines)
+    refused = refusal_of(done, lines)
     if refused:
         place = int(re.match(r"line (\d+)", refused)[1])
         return 0, [Failure(place, line_at(text, place), got=[refused])]
     if done.status:
-        return 0, [Failure(0, "", got=[f"the program ended with status {done.status}"])]
-    printed = {}
-    for entry in plays.lay_out(trace, done.output):
-        if entry.printed:
-            place = lines[entry.number - 1][0]
-            printed[place] = Printed(place, line_at(text, place), entry.printed, entry.note, Explained(trace, done.output, entry))
+        return 0, [Failure(0, "", got=[f"{runner.file} ended with status {done.status}: is it the program of crates/optee_run?"])]
+    try:
+        printed = printed_by(text, lines, done.output)
+    except plays.Mismatch as mismatch:
+        return 0, [Failure(0, "", got=[f"{runner.file} isn't the program of crates/optee_run: {mismatch}"])]
     count, failures = wanted_lines(printed, enumerate(text.splitlines(), 1))
-    return count, with_panics(failures, path, text, trace, done) if word == "client" else failures
+    return count, with_panics(failures, path, text, lines, done) if word == "client" else failures
+
+
+def refusal_of(done, lines):
+    """What the program says of a trace that it refuses, by the number of its line in the reader's own file; or None."""
+    bad = re.fullmatch(r"bad trace (\d+) (\w+)\n", done.output) if done.status == 3 else None
+    if bad is None:
+        return None
+    number, kind = int(bad[1]), bad[2]
+    place, line = lines[number - 1] if 0 < number <= len(lines) else (0, "")
+    return f"line {place}: bad trace, {kind}: {formats.FAULTS.get(kind, 'no known kind')}" + (f": {line:.80}" if line else "")
+
+
+def printed_by(text, lines, output):
+    """What each line of a file has printed, by its number. `lines` are those of its trace, each behind the number of the file's."""
+    trace = "".join(f"{line}\n" for _, line in lines)
+    found, at = {}, 0
+    for entry in plays.lay_out(trace, output):
+        if entry.printed and entry.number:
+            place = lines[entry.number - 1][0]
+            found[place] = Printed(place, line_at(text, place), entry.printed, entry.note, Explained(trace, output, entry.number, at))
+        at += bool(entry.printed) or entry.text.startswith("cpu ")
+    return found
 
 
 def line_at(text, place):
@@ -166,28 +207,29 @@ def line_at(text, place):
 
 
 class Explained:
-    """What another line would say in the place of a printed one."""
+    """What another line would say in the place of the one that a line of a trace has printed, which is the output's line `at`, from 0."""
 
-    def __init__(self, trace, output, entry):
-        self.trace, self.output, self.entry = trace, output, entry
+    def __init__(self, trace, output, number, at):
+        self.trace, self.output, self.number, self.at = trace, output, number, at
 
     def __call__(self, line):
-        before = sum(bool(entry.printed) for entry in plays.lay_out(self.trace, self.output) if entry.number < self.entry.number)
         printed = self.output.splitlines()
-        printed[before] = line
+        printed[self.at] = line
         try:
             entries = plays.lay_out(self.trace, "".join(f"{part}\n" for part in printed))
         except plays.Mismatch:
             return None
-        return next(entry.note for entry in entries if entry.number == self.entry.number)
+        return next(entry.note for entry in entries if entry.number == self.number)
 
 
-def with_panics(failures, path, text, trace, done):
+def with_panics(failures, path, text, lines, done):
     """The failures of a client's script, with the panics in which calls have ended."""
-    maps = client_test.maps_of(text, pathlib.Path(path).parent)
-    panics = client_test.panics_of(trace, done.output.splitlines(), maps)
-    places = [call.place for call in client_test.placed_calls(lift.placed(text, pathlib.Path(path).parent))]
-    by_place = {places[number]: panic for number, panic in panics.items()}
+    if not failures:
+        return failures
+    maps = places.maps_of(text, pathlib.Path(path).parent)
+    panics = client.panics_of("".join(f"{line}\n" for _, line in lines), done.output.splitlines(), maps)
+    calls = [place for place, line in lines if line.split(" ")[0] in plays.CLIENT_CALLS]
+    by_place = {calls[number]: panic for number, panic in panics.items()}
     return [failure._replace(got=[*failure.got, by_place[failure.place]]) if failure.place in by_place else failure for failure in failures]
 
 
@@ -257,9 +299,9 @@ def audited(path, runner):
     return 1, [] if line.startswith("legal") else [Failure(0, "", ["legal"], [line or f"status {done.status}"])]
 
 
-def tested(path, programs):
-    """Runs a file."""
-    begun, suffix = time.monotonic(), pathlib.Path(path).suffix
+def tested(path, programs, suffix=None):
+    """Runs a file, which is what the end of its name says, or the suffix."""
+    begun, suffix = time.monotonic(), suffix or pathlib.Path(path).suffix
     try:
         if suffix == ".lines":
             count, failures = converse(path, programs.talker)
@@ -267,7 +309,7 @@ def tested(path, programs):
             count, failures = audited(path, program.Program(programs.runner))
         else:
             count, failures = play(path, WORDS[suffix], program.Program(programs.runner))
-    except (lift.Fault, plays.Mismatch, live.Over, live.NoConversation, live.Refused) as fault:
+    except (BadWords, lift.Fault, plays.Mismatch, live.Over, live.NoConversation, live.Refused) as fault:
         place = re.match(r"line (\d+)", str(fault))
         count, failures = 0, [Failure(int(place[1]) if place else 0, "", got=[str(fault)])]
     return Case(path, count, failures, time.monotonic() - begun)
@@ -312,13 +354,18 @@ def paths_of(names):
     for name in names:
         path = pathlib.Path(name)
         if path.is_dir():
-            yield from (str(file) for file in sorted(path.iterdir()) if file.suffix in WORDS)
+            yield from (str(file) for file in sorted(path.iterdir()) if file.suffix in WORDS and not is_output(file))
         elif not path.is_file():
             raise BadWords(f"{name}: No such file or directory")
         elif path.suffix not in WORDS:
             raise BadWords(f"{name} is no test: its name ends with none of {' '.join(WORDS)}")
         else:
             yield name
+
+
+def is_output(path):
+    """Whether a file is what `threads` has printed of the trace beside it."""
+    return path.suffix == ".threads" and path.with_suffix(".trace").is_file()
 
 
 def taken(words, name, default=None):
@@ -352,13 +399,22 @@ def main(words):
     for name, file in zip(("optee_run", "optee_live"), programs):
         if name in needed:
             program.found(name, file)
-    cases = []
-    for case in cases_of(paths, programs, jobs):
-        cases.append(case)
-        print("\n".join(lines_on(case)), flush=True)
+    cases = list(told_cases(cases_of(paths, programs, jobs)))
     for path, made in ((junit, as_junit), (as_text, as_json)):
         if path:
             pathlib.Path(path).write_text(made(cases), encoding="utf-8")
+    return status_of(cases)
+
+
+def told_cases(cases):
+    """The cases, each told as soon as it was run."""
+    for case in cases:
+        print("\n".join(lines_on(case)), flush=True)
+        yield case
+
+
+def status_of(cases):
+    """Tells the total. The status."""
     count, failed = sum(case.compared for case in cases), sum(bool(case.failures) for case in cases)
     print(f"{len(cases)} cases, {failed} failed, {count} lines compared")
     if not count and not failed:

@@ -24,7 +24,6 @@ import arg
 import bench_test
 import chart
 import client
-import client_test
 import client_trace
 import conversations
 import documented
@@ -411,27 +410,59 @@ def last_lines(text, wanted):
 NO_IMAGE = "BadHeader(0): 1 bytes are fewer than 36\n"
 
 
+class Printer:
+    """A program that prints one output and ends with one status, whatever it is given."""
+
+    file = "printer"
+
+    def __init__(self, output, status=0):
+        self.done = program.Done(output, status)
+
+    def run(self, words, text):
+        return self.done
+
+
+def calls_of(script):
+    """The calls of a script, each with the line that is wanted of it, in digits, or None."""
+    found = []
+    for line in script.splitlines():
+        if line.split(" ")[0] in plays.CLIENT_CALLS:
+            found.append((line, None))
+        elif line.startswith(bench_test.MARK):
+            found[-1] = found[-1][0], bench_test.in_digits(line[len(bench_test.MARK) :].strip())
+    return found
+
+
 def check_clients(comparison):
     """Scripts as tests: the shipped ones, and each of their lines changed, left out, or of another status."""
     known = f"program={FOLDER / 'known.py'}"
     for path in sorted(shipped.EXAMPLES.glob("*.client")):
         script, output = shipped.read(path), shipped.read(path.with_suffix(".out"))
-        calls = client_test.calls_of(script)
-        comparison.same(f"lines wanted by {path.name}", [call.wanted for call in calls], output.splitlines())
-        count = len(calls)
+        wanted = [line for _, line in calls_of(script)]
+        comparison.same(f"lines wanted by {path.name}", wanted, output.splitlines())
         given = tool("client_test.py", known, path)
-        comparison.same(f"client_test.py {path.name}", given[:2], (0, f"{path}: ok, {count} calls, {count} compared\n"))
+        told = f"{path}: ok, {len(wanted)} compared\n1 cases, 0 failed, {len(wanted)} lines compared\n"
+        comparison.same(f"client_test.py {path.name}", given[:2], (0, told))
         for line in output.splitlines(keepends=True):
             for other in (output.replace(line, line.replace("0000", "0001", 1), 1), output.replace(line, "", 1)):
-                said = client_test.differing(calls, program.Done(other, 0))
-                comparison.same(f"client_test.py at another line {line}", said != [], True)
-        said = client_test.differing(calls, program.Done(output, 7))
-        comparison.same("client_test.py at status 7", said, ["  the program ended with status 7"])
+                _, failures = bench_test.play(path, "client", Printer(other))
+                comparison.same(f"bench_test.py at another line {line}", failures != [], True)
+        _, failures = bench_test.play(path, "client", Printer(output, 7))
+        comparison.same("bench_test.py at status 7", [failure.got[0][:27] for failure in failures], ["printer ended with status 7"])
     for script, (output, status, wanted) in expected.CLIENT_TESTS.items():
-        said = client_test.differing(client_test.calls_of(script), program.Done(output, status))
-        comparison.same(f"client_test.py at {script}", said, wanted)
+        given = told_of("x.client", script, Printer(output, status))
+        comparison.same(f"bench_test.py at {script}", given, wanted)
     given = tool("client_test.py", known, "-", text="boot 1 2 1\n#= open s 00000000 00000004\n")
     comparison.same("client_test.py at a line behind no call", given[0], 1)
+
+
+def told_of(name, text, runner):
+    """What bench_test.py tells of a file of this name and text, by a program, but for its first line."""
+    with tempfile.TemporaryDirectory() as folder:
+        path = pathlib.Path(folder, name)
+        path.write_text(text, encoding="latin-1")
+        case = bench_test.Case(name, *bench_test.play(path, bench_test.WORDS[path.suffix], runner), 0)
+    return bench_test.lines_on(case)[1:]
 
 
 def check_runner(comparison):
@@ -442,21 +473,47 @@ def check_runner(comparison):
     status, printed, _ = tool("bench_test.py", known, path)
     comparison.same("bench_test.py", (status, printed.splitlines()[-1]), (0, f"1 cases, 0 failed, {count} lines compared"))
     played = expected_play(path)
-    calls = [call for call in client_test.placed_calls(lift.placed(script, path.parent)) if call.wanted]
+    calls = [(text, wanted) for text, wanted in calls_of(script) if wanted]
     comparison.same("bench_test.py: the calls", len(calls), count)
-    for number, (call, line) in enumerate(zip(calls, played.output.splitlines())):
-        note = plays.client_call(0, call.text.split(" "), collections.deque([line]))[1]
-        printed = bench_test.Printed(call.place, call.text, line, note, lambda other: None)
+    for number, ((text, _), line) in enumerate(zip(calls, played.output.splitlines())):
+        note = plays.client_call(0, text.split(" "), collections.deque([line]))[1]
+        printed = bench_test.Printed(number, text, line, note, lambda other: None)
         words = line.split(" ")
         other = " ".join([*words[:2], "ffff0000", *words[3:]])
         comparison.same(f"bench_test.py at line {number}", bench_test.compared(line, printed), None)
         comparison.same(f"bench_test.py at the front of line {number}", bench_test.compared(f"{words[0]} ..", printed), None)
         said = bench_test.compared(other, printed)
-        comparison.same(f"bench_test.py at another result, {number}", said and (said.place, said.differs[:8]), (call.place, "result: "))
+        comparison.same(f"bench_test.py at another result, {number}", said and (said.place, said.differs[:8]), (number, "result: "))
         said = bench_test.compared("= nothing", printed)
         comparison.same(f"bench_test.py at another note, {number}", said and said.got, [line, f"= {note}"])
     with tempfile.TemporaryDirectory() as folder:
         comparison.same("bench_test.py at no test", tool("bench_test.py", known, folder)[0], bench_test.NO_CASE)
+    check_threads(comparison)
+
+
+def check_threads(comparison):
+    """Traces by threads: each printed line stands behind its own one, whatever the order of the processors' blocks; and a folder in which
+    the output of one lies."""
+    trace, output = (shipped.read(shipped.EXAMPLES / f"two_rams.{end}") for end in ("trace", "threads"))
+    left = [line for line in output.splitlines() if not line.startswith("cpu ")]
+    for cpu in ("0", "1"):
+        own = [line for line in left if line.split(" ")[1] == cpu]
+        wanted = own[::-1]
+        text = "".join(f"{line}\n" + (f"#= {wanted.pop()}\n" if prints(line, cpu) else "") for line in trace.splitlines())
+        comparison.same(f"bench_test.py: lines of processor {cpu}", wanted, [])
+        comparison.same(f"bench_test.py by threads, {cpu}", told_of("x.threads", text, Printer(output)), [])
+        for number, line in enumerate(own):
+            other = text.replace(f"#= {line}", f"#= {line[:-1]}x", 1)
+            comparison.same(f"bench_test.py by threads, {cpu} {number}", len(told_of("x.threads", other, Printer(output))) > 2, True)
+    with tempfile.TemporaryDirectory() as folder:
+        for name in ("a.trace", "a.threads", "b.threads"):
+            pathlib.Path(folder, name).touch()
+        comparison.same("bench_test.py: tests of a folder", [pathlib.Path(path).name for path in bench_test.paths_of([folder])], ["a.trace", "b.threads"])
+
+
+def prints(line, cpu):
+    """Whether a line of a trace prints one of a processor."""
+    return line.split(" ")[0] in ("smc", "leave", "show") and line.split(" ")[1] == cpu
 
 
 class Given(live.Conversation):
@@ -515,7 +572,7 @@ def client_plays():
     for shown in shipped.applications_in_c():
         name = shown.folder.name
         script = lift.lifted(shipped.read(shown.folder / f"{name}.client"), shown.folder)
-        wanted = "".join(f"{call.wanted}\n" for call in client_test.calls_of(script))
+        wanted = "".join(f"{wanted}\n" for _, wanted in calls_of(script))
         yield shipped.Play(f"{name}.client", script, wanted, 0)
 
 
@@ -534,9 +591,9 @@ def check_applications_in_c(comparison):
         told = [line for line in commented.splitlines() if line[0] == "#"]
         comparison.same(f"image.py map={name}.map", told, [line for line in shown.text.splitlines() if line[0] == "#"][1:])
         script = lift.lifted(shipped.read(shown.folder / f"{name}.client"), shown.folder)
-        calls = client_test.calls_of(script)
-        comparison.same(f"{name}.client wants each result", [call.text for call in calls if call.wanted is None], [])
-        comparison.same(f"client.py at {name}.client", client.play(script), "".join(f"{call.wanted}\n" for call in calls))
+        calls = calls_of(script)
+        comparison.same(f"{name}.client wants each result", [text for text, wanted in calls if wanted is None], [])
+        comparison.same(f"client.py at {name}.client", client.play(script), "".join(f"{wanted}\n" for _, wanted in calls))
     for name, (code, wanted) in expected.OWN_PANICS.items():
         folder = shipped.IN_C / name
         sources = [(image.decode(bytes.fromhex(shipped.read(folder / f"{name}.hex"))), places.map_beside(folder / f"{name}.hex"))]
@@ -624,8 +681,8 @@ def check_by_program(comparison, file):
     """The scripts of the applications in C by the program."""
     for shown in shipped.applications_in_c():
         path = shown.folder / f"{shown.folder.name}.client"
-        lines, is_as_wanted = client_test.tested(path, program.Program(file))
-        comparison.same(f"client_test.py {path.name}", lines[1:] or is_as_wanted, True)
+        case = bench_test.tested(str(path), bench_test.Programs(file, None))
+        comparison.same(f"bench_test.py {path.name}", bench_test.lines_on(case)[1:], [])
 
 
 def check_pages(comparison, file=None, talker=None):

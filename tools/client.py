@@ -1,5 +1,5 @@
 """What a client's script comes to, by docs/formats.md ("What a call runs", "Script of a client"), over machine.py. It isn't run
-by itself: check.py compares what it says with what the word `client` has printed, and client_test.py asks it where a call has panicked."""
+by itself: check.py compares what it says with what the word `client` has printed, and bench_test.py asks it where a call has panicked."""
 
 import collections
 import hashlib
@@ -9,6 +9,7 @@ import formats
 import image
 import machine
 import objects
+import places
 
 SINGLE, MULTI, KEEP = 1 << 2, 1 << 3, 1 << 4
 DIGEST = "3f0c7a11-52b8-4d6e-9a40-0e6b5d2c8f01"
@@ -249,6 +250,25 @@ def played(script):
                 yield Played(client.call(words), client.panic)
             except NoRoom:
                 return
+
+
+def panics_of(script, printed, maps):
+    """By the number of a call of a good script, the line that says in which panic it has ended, up to a call of which something else was
+    printed. The maps are those of places.maps_of."""
+    found = {}
+    for number, (call, line) in enumerate(zip(played(script), printed)):
+        if call.line != line:
+            return found
+        if call.panic:
+            found[number] = told_of(call.panic, maps)
+    return found
+
+
+def told_of(panic, maps):
+    """The line on a panic."""
+    source = maps.get(places.behind_flags(image.encoded(panic.image)), places.Map())
+    why = places.why_of(panic.code, panic.why, source)
+    return f"panic {panic.code:08x} at {panic.place}: {why}{source.behind(panic.place, panic.stack)}"
 
 
 def play(script):

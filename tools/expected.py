@@ -365,31 +365,46 @@ invoke returns 00000000 0000000c in 6 steps v:0000000c:00000000
     "mark invoke 0 invoke 0 r2=1": (0, "invoke returns 00000005 00000000 in 5 steps\n"),
 }
 
-# What client_test.py says of a script, by what the program has printed for it and its status.
+# What bench_test.py says of a client's script, by what the program has printed for it and its status.
 CLIENT_TESTS = {
-    f"open s {FIRST}\n#= open s SUCCESS TRUSTED_APP\nclose s\n#= close s SUCCESS TEE\n": (
+    f"boot 1 2 1\nopen s {FIRST}\n#= open s SUCCESS TRUSTED_APP\nclose s\n#= close s SUCCESS TEE\n": (
         "open s ffff0008 00000003\nclose s ffff0006 00000003\n",
         0,
         [
-            f"  open s {FIRST}",
+            f"x.client:2: open s {FIRST}",
             "    wanted open s SUCCESS TRUSTED_APP",
-            "    came   open s ITEM_NOT_FOUND TEE",
-            "  close s",
+            "           = SUCCESS of TRUSTED_APP",
+            "    got    open s ffff0008 00000003",
+            "           = ITEM_NOT_FOUND of TEE",
+            "    differs: result: ffff0008 (ITEM_NOT_FOUND), not 00000000 (SUCCESS); origin: 00000003 (TEE), not 00000004 (TRUSTED_APP)",
+            "x.client:4: close s",
             "    wanted close s SUCCESS TEE",
-            "    came   close s BAD_PARAMETERS TEE",
+            "           = SUCCESS of TEE",
+            "    got    close s ffff0006 00000003",
+            "           = BAD_PARAMETERS of TEE",
+            "    differs: result: ffff0006 (BAD_PARAMETERS), not 00000000 (SUCCESS)",
         ],
     ),
-    f"open s {FIRST}\nclose s\n#= close s SUCCESS TEE\n": (
-        "open s 00000000 00000004\n",
-        7,
+    f"boot 1 2 1\nopen s {FIRST}\n#= open s SUCESS TEE\n": (
+        "open s ffff0008 00000003\n",
+        0,
         [
-            "  close s",
-            "    wanted close s SUCCESS TEE",
-            "    came   nothing",
-            "  the program ended with status 7",
+            f"x.client:2: open s {FIRST}",
+            "    wanted open s SUCESS TEE",
+            "           SUCESS is no result of docs/formats.md, and no eight digits",
+            "    got    open s ffff0008 00000003",
+            "           = ITEM_NOT_FOUND of TEE",
         ],
     ),
-    f"open s {FIRST}\n#= open s 00000000 00000004\n": ("bad trace 1 place\n", 3, ["  bad trace 1 place"]),
+    f"open s {FIRST}\n#= open s 00000000 00000004\n": (
+        "bad trace 1 place\n",
+        3,
+        [
+            f"x.client:1: open s {FIRST}",
+            "    got    line 1: bad trace, place: no boot line before, a second one, or a ta or mem line behind a line of another kind: "
+            f"open s {FIRST}",
+        ],
+    ),
 }
 
 # A script of a client whose application waits, and is cancelled then; and what client_trace.py says of it to a core, each line with what the

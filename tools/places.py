@@ -11,7 +11,7 @@ import re
 
 import formats
 import machine
-from words import BadWords, text_of
+from words import BadWords, octets, text_of
 
 # Codes of panics that an application in C has of the sdk, by its page.
 SDK_PANICS = {16: "an assertion, or a trap of the compiler", 17: "a call by a pointer that is no function's"}
@@ -58,6 +58,20 @@ def map_beside(name):
     """The map beside an image's file, or an empty one."""
     file = pathlib.Path(name).with_suffix(".map")
     return map_of(file) if name != "-" and file.is_file() else Map()
+
+
+def maps_of(text, folder):
+    """The maps that lie beside the images that a script for lift.py names, by what an image has behind its flags."""
+    found = {}
+    for words in (line.split() for line in text.splitlines()):
+        if words[:1] == ["image"] and len(words) > 2:
+            found[behind_flags(octets("".join(text_of(folder / words[2]).split())))] = map_beside(folder / words[2])
+    return found
+
+
+def behind_flags(data):
+    """The bytes of an image behind its flags, which a script may change."""
+    return data[8:]
 
 
 def why_of(code, why, source):

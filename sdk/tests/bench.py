@@ -8,7 +8,7 @@ TESTS = pathlib.Path(__file__).resolve().parent
 SDK, ROOT = TESTS.parent, TESTS.parent.parent
 sys.path[:0] = [str(SDK), str(ROOT / "tools")]
 
-import client_test  # noqa: E402
+import bench_test  # noqa: E402
 import program  # noqa: E402
 
 
@@ -37,8 +37,9 @@ def built(*words, folder=SDK, environment=None):
 
 
 def played(script, file):
-    """The lines of client_test.py on a script, and whether all is as wanted."""
-    return client_test.tested(str(script), program.Program(file))
+    """The lines of bench_test.py on a script, and whether all is as wanted."""
+    case = bench_test.tested(str(script), bench_test.Programs(file, None))
+    return bench_test.lines_on(case), case.compared > 0 and not case.failures
 
 
 def assembled(text, file):
