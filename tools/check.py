@@ -196,6 +196,7 @@ def check_other_words(comparison):
         given = tool("annotate.py", shipped.EXAMPLES / f"{name}.journal")
         comparison.same(f"annotate.py {name}.journal", given[:2], (0, annotate.annotated(told)))
     check_explained(comparison)
+    check_compared(comparison)
     for play in shipped.worked_cases("record"):
         data = play.output.encode("latin-1")
         if data.startswith(journal.MAGIC):
@@ -239,6 +240,50 @@ def check_explained(comparison):
         play = next(play for play in shipped.worked_cases("audit") if play.name == name)
         at = int(play.output.split(" ")[1])
         comparison.same(f"explain.py at {name}", explain.explanation(play.trace.encode("latin-1"), at, None)[-1], f"differs: {fault}")
+
+
+class Comparer:
+    """A program that compares fronts of two journals, of which the session's own events are told by hand, event by event."""
+
+    file = "comparer"
+
+    def __init__(self, *told):
+        self.told = told
+
+    def own(self, data):
+        """The own events of a front of one of them."""
+        events = explain.read(data)[1]
+        labels = next(labels for whole, labels in self.told if explain.read(whole)[1][: len(events)] == events)
+        return [label for label in labels[: len(events)] if label]
+
+    def run(self, words, text):
+        one, two = (self.own(part) for part in explain.parted(text.encode("latin-1")))
+        first = next((at for at, pair in enumerate(zip(one, two)) if pair[0] != pair[1]), min(len(one), len(two)))
+        said = f"same {len(one)}" if one == two else f"events {first}"
+        absent = [number for number, own in ((1, one), (2, two)) if not own]
+        return program.Done(f"absent {absent[0]}\n" if absent else f"{said}\n", 0)
+
+
+def check_compared(comparison):
+    """Two journals that are different: the events at which they first are, or their headers, and what differs by its name."""
+    play = next(play for play in shipped.worked_cases("compare 1") if play.name == "compare-session-with-another-input")
+    one, two = explain.parted(play.trace.encode("latin-1"))
+    comparer = Comparer((one, expected.OWN_EVENTS[0]), (two, expected.OWN_EVENTS[1]))
+    short = explain.Side(1, one).front(2)
+    for data, wanted in ((one + two, expected.COMPARED[0]), (two + short, expected.COMPARED[1]), (short + one, expected.COMPARED[2])):
+        said, lines = explain.verdict("1", data, comparer)
+        told = [line for line in lines if line.startswith(("journal", "differs"))]
+        comparison.same(f"explain.py compare: {wanted[0]}", [said, *told], wanted)
+    for verdict, subject, change, wanted in expected.HEADERS_COMPARED:
+        changed = one.replace(bytes.fromhex(change[0]), bytes.fromhex(change[1]), 1)
+        given = explain.verdict(subject, one + changed, Printer(f"{verdict}\n"))
+        comparison.same(f"explain.py compare {subject}: {verdict}", given, (verdict, wanted))
+
+
+def compare_plays():
+    """The cases of `compare` that are told a verdict, each with its subject."""
+    words = {line[6:] for line in shipped.read(shipped.CRATES / "cases/stdin").splitlines() if line.startswith("words compare ")}
+    yield from ((play, text.split(" ")[1]) for text in sorted(words) for play in shipped.worked_cases(text) if play.status == 0)
 
 
 def data_with(data, at, register, value):
@@ -678,7 +723,11 @@ def file_call(files, name, *operands):
 
 
 def check_by_program(comparison, file):
-    """The scripts of the applications in C by the program."""
+    """The scripts of the applications in C by the program; and each verdict of `compare`, explained."""
+    for play, subject in compare_plays():
+        said, lines = explain.verdict(subject, play.trace.encode("latin-1"), program.Program(file))
+        is_told = bool(lines) and lines[-1].startswith(("differs: ", "journal ")) and "became of it" not in lines[-1]
+        comparison.same(f"explain.py compare: {play.name}", (f"{said}\n", is_told), (play.output, not said.startswith("same")))
     for shown in shipped.applications_in_c():
         path = shown.folder / f"{shown.folder.name}.client"
         case = bench_test.tested(str(path), bench_test.Programs(file, None))

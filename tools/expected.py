@@ -495,7 +495,7 @@ BAD_WORDS = {
     "annotate.py": ["", "a", "a b c", "no_such_file no_such_file"],
     "answers.py": ["", "a", "a b c", "no_such_file no_such_file"],
     "image.py": ["x", "comments x", "map=no_such_file", "map=../README.md"],
-    "explain.py": ["", "a b", "no_such_file", "program=no_such_file a"],
+    "explain.py": ["", "a b", "no_such_file", "program=no_such_file a", "compare", "compare 1", "compare 01 a", "compare 1 a b c"],
     "lift.py": ["", "a b", "no_such_file"],
     "check.py": ["x"],
     "chart.py": ["", "a b c", "program=no_such_file a", "no_such_file no_such_file"],
@@ -594,6 +594,55 @@ CAUSES = [
     "GET_OS_UUID",
     "GET_OS_UUID 486178e0-e7f8-11e3-bc5e-0002a5d5c51b",
     "OK",
+]
+
+# Of the two journals of the case compare-session-with-another-input, which own event of session 1 each event is: an open and an invoke,
+# which is interrupted five times in the second.
+OWN_EVENTS = (
+    ["open", "out of 0", "invoke of 5 and 7", "out of 1"],
+    ["open", "out of 0", "invoke of 6 and 7", *10 * [None], "out of 1"],
+)
+
+# What explain.py says of both, of the second and a front of the first, and of this and the first: the verdict, and the lines between the events.
+COMPARED = [
+    [
+        "events 2",
+        "journal 1 has its own event 2 at event 2. What led there:",
+        "journal 2 has its own event 2 at event 2. What led there:",
+        "differs: parameter 0: value_inout 5, 7, 0 in journal 1, value_inout 6, 7, 0 in journal 2",
+    ],
+    [
+        "events 2",
+        "journal 1 has its own event 2 at event 2. What led there:",
+        "journal 2 has no own event 2: its last one is event 1. What led there:",
+        "differs: journal 2 ends before",
+    ],
+    [
+        "events 2",
+        "journal 1 has no own event 2: its last one is event 1. What led there:",
+        "journal 2 has its own event 2 at event 2. What led there:",
+        "differs: journal 1 ends before",
+    ],
+]
+
+# What it says of the first one and itself, of which some bytes are others, by a verdict and its subject.
+IMAGE_FRONT = "4f545441 00000000 01000000 07000000".replace(" ", "")
+HEADERS_COMPARED = [
+    (
+        "other",
+        FIRST,
+        (IMAGE_FRONT, IMAGE_FRONT.replace("00000000", "04000000", 1)),
+        ["differs: the image from byte 4 on: 0000000001000000.. in journal 1, 0400000001000000.. in journal 2"],
+    ),
+    ("absent 2", FIRST, ("11111111", "21111111"), ["journal 2: it is no application there"]),
+    ("absent 1", FIRST, ("11111111", "11111111"), ["journal 1: each of its sessions has an instance of its own: compare their numbers"]),
+    ("absent 2", "7", ("11111111", "11111111"), ["journal 2: no open was given this number"]),
+    (
+        "absent 2",
+        "1",
+        (IMAGE_FRONT, IMAGE_FRONT.replace("00000000", "04000000", 1)),
+        [f"journal 2: no open was given this number, or it is of an application whose sessions share an instance: compare {FIRST}"],
+    ),
 ]
 
 # What explain.py names of events that are out of turn, and of reads that disagree, of cases.
