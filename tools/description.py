@@ -4,6 +4,7 @@ embed/teec/README.md has their lines. The library for C reads them too (embed/te
 """
 
 import dataclasses
+import os
 import pathlib
 import re
 
@@ -107,6 +108,8 @@ class Reading:
         self.described.program = self.folder / file
 
     def files(self, folder):
+        if not can_hold_files(self.folder / folder):
+            raise Wrong("a folder that can't be made")
         self.described.files = self.folder / folder
 
     def clock(self, kind):
@@ -150,6 +153,22 @@ def number(word, most):
     if not re.fullmatch("[0-9]+", word) or not 1 <= int(word) <= most:
         raise Wrong("a number that isn't in its limits")
     return int(word)
+
+
+def is_open_folder(path):
+    """Whether files may be made in a folder."""
+    return path.is_dir() and os.access(path, os.W_OK | os.X_OK)
+
+
+def can_hold_files(path):
+    """Whether files may lie in a folder: it is there, or can be made in one that is."""
+    try:
+        path.lstat()
+    except FileNotFoundError:
+        return is_open_folder(path.parent)
+    except OSError:
+        return False
+    return is_open_folder(path)
 
 
 def one_of(word, one, other, cause):

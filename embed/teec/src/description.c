@@ -4,8 +4,11 @@
 #include "parts.h"
 
 #include <errno.h>
+#include <libgen.h>
 #include <stdlib.h>
 #include <string.h>
+#include <sys/stat.h>
+#include <unistd.h>
 
 enum { MOST_NAMES = 64, MOST_WORDS = 5, UUID_LENGTH = 36 };
 enum { MOST_CPUS = 8, MOST_FRAMES = 1024, MOST_STEPS = 1000000, MOST_LIMIT = 3600000 };
@@ -48,6 +51,23 @@ static char *first_line(const char *path) {
     }
     line[strcspn(line, "\r\n")] = 0;
     return line;
+}
+
+/* Whether files may be made in a folder. */
+static bool is_open_folder(const char *path) {
+    struct stat found;
+    return stat(path, &found) == 0 && S_ISDIR(found.st_mode) && access(path, W_OK | X_OK) == 0;
+}
+
+/* Whether files may lie in a folder: it is there, or can be made in one that is. */
+static bool can_hold_files(const char *path) {
+    struct stat found;
+    if (lstat(path, &found) == 0) return is_open_folder(path);
+    bool is_free = errno == ENOENT;
+    char *copy = is_free ? strdup(path) : NULL;
+    bool can_be_made = copy && is_open_folder(dirname(copy));
+    free(copy);
+    return can_be_made;
 }
 
 /* ---- Words. */
@@ -160,7 +180,9 @@ static const char *take_program(struct reading *reading, char **words) {
 }
 
 static const char *take_files(struct reading *reading, char **words) {
-    return (reading->description->files = beside(reading->path, words[1])) ? NULL : no_memory;
+    reading->description->files = beside(reading->path, words[1]);
+    if (reading->description->files == NULL) return no_memory;
+    return can_hold_files(reading->description->files) ? NULL : "a folder that can't be made";
 }
 
 static const char *take_clock(struct reading *reading, char **words) {

@@ -54,6 +54,20 @@ static TEEC_Result reads(const char *key, const char *wanted) {
     return result;
 }
 
+/* A folder that can't be made is told as the context is begun; one whose own folder goes then is no place for an object. */
+static void without_folder(void) {
+    TEEC_Context ctx;
+    char above[] = "/tmp/teec_above_XXXXXX", inside[100], data[8] = "bytes";
+    size_t size = sizeof data;
+    CHECK(TEEC_InitializeContext(with_files("/nowhere/at/all", NULL), &ctx) == TEEC_ERROR_BAD_FORMAT);
+    CHECK(mkdtemp(above) != NULL), snprintf(inside, sizeof inside, "%s/objects", above);
+    CHECK(TEEC_InitializeContext(with_files(inside, NULL), &ctx) == TEEC_SUCCESS);
+    CHECK(rmdir(above) == 0);
+    TEEC_Session session = opened(&ctx, STORAGE);
+    CHECK(storage(&session, 1, "name", data, &size) != TEEC_SUCCESS && origin == APP);
+    TEEC_FinalizeContext(&ctx);
+}
+
 static void in_folder(void) {
     static const char other[] = "ffff02030405060708090a0b0c0d0e0f101112131415161718191a1b1c1d1e1f";
     TEEC_Context ctx;
@@ -75,11 +89,7 @@ static void in_folder(void) {
     CHECK(storage(&session, 2, "name", NULL, NULL) == TEEC_SUCCESS);
     TEEC_FinalizeContext(&ctx);
     CHECK(reads(NULL, data) == TEEC_ERROR_ITEM_NOT_FOUND);
-    /* A folder that can't be made. */
-    CHECK(TEEC_InitializeContext(with_files("/nowhere/at/all", NULL), &ctx) == TEEC_SUCCESS);
-    session = opened(&ctx, STORAGE);
-    size = sizeof data, CHECK(storage(&session, 1, "name", data, &size) != TEEC_SUCCESS && origin == APP);
-    TEEC_FinalizeContext(&ctx);
+    without_folder();
 }
 
 /* Two contexts of one description have one core: its files and its single instances. */
