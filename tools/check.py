@@ -21,6 +21,7 @@ import tempfile
 import annotate
 import answers
 import arg
+import assembler
 import bench_test
 import chart
 import client
@@ -112,6 +113,33 @@ def check_images(comparison):
         commented = tool("image.py", "comments", text=digits)[1]
         without = [line for line in commented.splitlines(keepends=True) if line[0] != "#"]
         comparison.same(f"image.py comments of {name}", "".join(without), disassembled(digits))
+
+
+def check_assembler(comparison):
+    """The texts of the assembler's tables, and those of the shipped applications: images, or the first fault. Steps of a text have its labels."""
+    texts = [(text, digits) for _, text, digits in shipped.applications()]
+    texts += [(shown.text, shown.digits) for shown in shipped.applications_in_c()]
+    texts += [(text, wanted.removeprefix("canonical ").removeprefix("other ")) for text, wanted in shipped.assembler_rows()]
+    for text, wanted in texts:
+        comparison.same(f"assembler.py at {text[-80:]!r}", assembled(text), wanted)
+    for words, wanted in expected.STEPS_OF_TEXTS.items():
+        name, *entries = words.split(" ")
+        printed = tool("step.py", shipped.EXAMPLES / f"applications/{name}.s", *entries)[1]
+        comparison.same(f"step.py {words}", [line for line in wanted if line in printed.splitlines()], wanted)
+    with tempfile.TemporaryDirectory() as folder:
+        path = pathlib.Path(folder, "x.s")
+        path.write_text(expected.GOOD_TEXT + "jump NOWHERE\n", encoding="latin-1")
+        given = tool("step.py", path, "open")[:2]
+        comparison.same("step.py at a text with a fault", given, (1, f"{path}:{expected.GOOD_TEXT.count(chr(10)) + 1}: a label that has no line\n"))
+
+
+def assembled(text):
+    """The digits of an image, or the first fault as the table of texts has it."""
+    names = {assembler.BAD: "bad line", assembler.UNKNOWN: "unknown label in line", assembler.REPEATED: "repeated label in line"}
+    try:
+        return image.encoded(assembler.assembled(text).image).hex()
+    except assembler.Fault as fault:
+        return f"{names[fault.cause]} {fault.place}"
 
 
 def disassembled(digits):
@@ -591,13 +619,14 @@ def check_client_traces(comparison):
 
 
 def check_by_talker(comparison, talker):
-    """By a program of conversations the calls of the shipped scripts, and of the cases of clients, come to what these print."""
-    for play in [*client_plays(), *shipped.worked_cases("client")]:
+    """By a program of conversations the calls of the shipped scripts, and of the cases of clients, come to what these print; but for those
+    that go to a limit, which make up to 32,768 SMCs."""
+    for play in [*client_plays(), *(play for play in shipped.worked_cases("client") if play.status != 7)]:
         said, fault = client_said(play.trace, talker)
         if play.status == 3:
             comparison.same(f"client_trace.py at {play.name}", fault is not None or play.output.endswith(" cut\n"), True)
         else:
-            comparison.same(f"client_trace.py at {play.name}", (said, fault is None), (play.output, play.status == 0))
+            comparison.same(f"client_trace.py at {play.name}", (said, fault), (play.output, None))
 
 
 def client_said(script, talker):
@@ -784,6 +813,7 @@ CHECKS = [
     check_tables,
     check_arguments,
     check_images,
+    check_assembler,
     check_faults,
     check_outputs,
     check_other_words,

@@ -365,6 +365,15 @@ invoke returns 00000000 0000000c in 6 steps v:0000000c:00000000
     "mark invoke 0 invoke 0 r2=1": (0, "invoke returns 00000005 00000000 in 5 steps\n"),
 }
 
+# Lines that step.py prints of texts for the assembler: where it comes to another label, a line of the text, and where a panic is.
+STEPS_OF_TEXTS = {
+    "counter invoke 0 vo": ["-- COUNT counter.s:19", "    2    3  bne r1 r3 BAD_PARAMETERS", "-- OPENED counter.s:41", "    3    4  const r3 0x6e756f63       r3 6e756f63"],
+    "add invoke 0": [
+        "-- SUM add.s:17",
+        "invoke panics with 00000005 at 2: no such parameter, or an object handle that isn't open (SUM add.s:20)",
+    ],
+}
+
 # What bench_test.py says of a client's script, by what the program has printed for it and its status.
 CLIENT_TESTS = {
     f"boot 1 2 1\nopen s {FIRST}\n#= open s SUCCESS TRUSTED_APP\nclose s\n#= close s SUCCESS TEE\n": (

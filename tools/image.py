@@ -120,7 +120,12 @@ def instruction_text(instruction):
 
 def digits_of(name):
     """The bytes of an image's digits, in a file or on standard input."""
-    digits = "".join(text_of(name).split())
+    return digits_in(text_of(name))
+
+
+def digits_in(text):
+    """The bytes of an image's digits in a text."""
+    digits = "".join(text.split())
     if not re.fullmatch("[0-9a-fA-F]+", digits):
         raise BadWords(f"an image's hexadecimal digits are wanted, and not {digits[:20] or 'nothing'}: `optee_run asm` makes them of a text")
     return octets(digits)

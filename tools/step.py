@@ -1,8 +1,8 @@
 #!/usr/bin/env python3
 """Runs entry points of an application step by step, and prints what each step changes.
 
-IMAGE is a file of an image's hexadecimal digits, as `asm` prints them. Behind it stand the entry points that are run on one
-instance, one after the other, each with its words:
+IMAGE is a file of an image's hexadecimal digits, as `asm` prints them, or a text for `asm`, which is assembled. Behind it stand the entry
+points that are run on one instance, one after the other, each with its words:
     create, close, destroy
     open [PARAMETER]..
     invoke FUNCTION [PARAMETER]..   the function in hexadecimal digits, as in a client's script
@@ -15,22 +15,25 @@ there are none at first; a time is the number of those before, and a wait is ove
 Each line has the number of the step, the place of its instruction, the instruction, and then what it changes: registers,
 memory as [ADDRESS] BYTES, and the name of a system call with r0 to r2 as they were. Behind an entry point stand its result
 and its outputs, or the panic's code and place. Where a map lies beside IMAGE, a line `-- FUNCTION FILE:LINE` stands where the steps come
-to another line of the source, and a panic has its line.
+to another line of the source, and a panic has its line. Of a text without a map it is `-- LABEL FILE:LINE`, where they come to another label; and
+the instructions are the text's lines.
 
-Status: 0 where all have returned, 1 at a panic, a bad image, or an entry point that takes over 10,000 steps; 2 at other words.
+Status: 0 where all have returned, 1 at a panic, a bad image or text, or an entry point that takes over 10,000 steps; 2 at other words.
 usage: step.py IMAGE ENTRY [WORD].. [ENTRY [WORD]..]..
 """
 
 import collections
+import pathlib
 import re
 import sys
 
+import assembler
 import formats
 import image
 import machine
 import objects
 import places
-from words import BadWords, hexadecimal, octets, run, text_of
+from words import BadWords, hexadecimal, plain, run, text_of
 
 MOST_STEPS = 10_000
 APPLICATION = "00000000-0000-0000-0000-000000000000"
@@ -87,22 +90,39 @@ def begun(run_, instance, context):
     return started
 
 
+class Shown:
+    """An application that is shown step by step: its image's bytes, its map, and the lines of its text, where it is one."""
+
+    def __init__(self, name):
+        text, self.source, self.lines = text_of(name), places.map_beside(name), []
+        if assembler.is_text(text):
+            made = assembler.assembled(text)
+            self.digits, self.lines = image.encoded(made.image), [line for _, line in made.lines]
+            self.source = self.source if self.source.places else assembler.Source(made, pathlib.Path(name).name)
+        else:
+            self.digits = image.digits_in(text)
+
+    def instruction(self, place, one):
+        """The text of the instruction at a place."""
+        return self.lines[place] if self.lines else image.instruction_text(one)
+
+
 # What is printed of an entry point, in how many steps, and how it stopped, or None where it takes too many.
 Traced = collections.namedtuple("Traced", "lines steps stop")
 
 
-def traced(started, source):
+def traced(started, shown):
     """Steps up to the stop."""
     lines, told = [], ""
     for number in range(1, MOST_STEPS + 1):
         before, place = values_of(started), started.place
-        if source.at(place) != told:
-            told = source.at(place)
+        if shown.source.at(place) != told:
+            told = shown.source.at(place)
             lines.append(f"-- {told}")
         stop = started.step()
         if place < len(started.code):
             changes = changes_of(started, before, started.code[place])
-            text = image.instruction_text(started.code[place])
+            text = shown.instruction(place, started.code[place])
             lines.append(f"{number:5} {place:4}  {text:<26}{changes}".rstrip())
         if stop:
             return Traced(lines, number, stop)
@@ -141,15 +161,15 @@ def ended(run_, started, steps, stop, source):
     return f"{run_.entry} returns {stop.first:08x} {stop.second:08x} in {steps} steps{outputs}"
 
 
-def session_steps(digits, words, source):
-    """All that is printed, and whether all entry points have returned. `source` is the image's map."""
-    instance = machine.Instance(image.decode(digits), objects.Store(APPLICATION, {}), machine.World())
+def session_steps(shown, words):
+    """All that is printed, and whether all entry points have returned."""
+    instance = machine.Instance(image.decode(shown.digits), objects.Store(APPLICATION, {}), machine.World())
     context, printed = 0, []
     for run_ in runs_of(words):
         started = begun(run_, instance, context)
         first = " ".join(f"{register:08x}" for register in started.registers[:3])
-        lines, steps, stop = traced(started, source)
-        printed += [f"{run_.entry} begins with {first}", *lines, ended(run_, started, steps, stop, source)]
+        lines, steps, stop = traced(started, shown)
+        printed += [f"{run_.entry} begins with {first}", *lines, ended(run_, started, steps, stop, shown.source)]
         if stop is None or stop.name == "panic":
             return printed, False
         if run_.entry == "open":
@@ -160,13 +180,17 @@ def session_steps(digits, words, source):
 def main(words):
     if len(words) < 2:
         raise BadWords()
-    digits = image.digits_of(words[0])
-    refused = image.refusal(digits)
+    try:
+        shown = Shown(words[0])
+    except assembler.Fault as fault:
+        print(plain(f"{words[0]}:{fault.place}: {fault.cause}"))
+        return 1
+    refused = image.refusal(shown.digits)
     if refused:
         print(f"{refused[0]}: {refused[1]}")
         return 1
-    printed, is_good = session_steps(digits, words[1:], places.map_beside(words[0]))
-    print("\n".join(printed))
+    printed, is_good = session_steps(shown, words[1:])
+    print(plain("\n".join(printed)))
     return 0 if is_good else 1
 
 
