@@ -43,7 +43,7 @@ import live
 import places
 import plays
 import program
-from words import BadWords, number, plain, run, text_of
+from words import BadWords, number, plain, run, text_of, write_text
 
 WORDS = {".trace": "run", ".script": "run", ".threads": "threads", ".signals": "notify", ".client": "client", ".lines": None, ".journal": "audit"}
 MARK, SERVE, REST, NOTE = "#=", "#! serve", "..", "= "
@@ -399,10 +399,12 @@ def main(words):
     for name, file in zip(("optee_run", "optee_live"), programs):
         if name in needed:
             program.found(name, file)
+    for path in filter(None, (junit, as_text)):
+        write_text(path, "")  # so that one that can't be written is told before all is run
     cases = list(told_cases(cases_of(paths, programs, jobs)))
     for path, made in ((junit, as_junit), (as_text, as_json)):
         if path:
-            pathlib.Path(path).write_text(made(cases), encoding="utf-8")
+            write_text(path, made(cases))
     return status_of(cases)
 
 

@@ -23,7 +23,6 @@ usage: chart.py [program=FILE] [--perfetto FILE] TRACE [OUTPUT]
 import collections
 import html
 import json
-import pathlib
 import re
 import sys
 
@@ -32,7 +31,7 @@ import formats
 import plays
 import program
 import story
-from words import BadWords, plain, run, text_of
+from words import BadWords, plain, run, text_of, write_text
 
 LEFT, INSIDE, OUTSIDE, BAND = 76, 96, 16, 980
 LANE, SLOT, TITLE, GAP = 74, 22, 16, 22
@@ -310,7 +309,7 @@ def main(words):
             plays.lay_out(trace, output)
         told = story.Story(story.visits_of(trace, output), story.threads_of(trace))
         if viewed:
-            pathlib.Path(viewed).write_text(traced(told), encoding="utf-8")
+            write_text(viewed, traced(told))
         else:
             print(chart(told), end="")
     except (plays.Mismatch, ValueError, IndexError, KeyError) as mismatch:

@@ -12,6 +12,7 @@ usage: client_test.py [program=FILE] SCRIPT|FOLDER..
 """
 
 import pathlib
+import sys
 
 import bench_test
 import program
@@ -36,7 +37,10 @@ def main(words):
     for name in words:
         if name != "-" and not pathlib.Path(name).exists():
             raise BadWords(f"{name}: No such file or directory")
-    cases = (bench_test.tested(path, programs, SUFFIX) for path in scripts_of(words))
+    scripts = list(scripts_of(words))
+    if not scripts:
+        print(f"no script was found: their names end with {SUFFIX}", file=sys.stderr)
+    cases = (bench_test.tested(path, programs, SUFFIX) for path in scripts)
     return bench_test.status_of(list(bench_test.told_cases(cases)))
 
 

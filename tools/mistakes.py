@@ -42,9 +42,29 @@ FILES = {
     "good.journal": JOURNAL,
     "empty": "",
     "junk": "\x00\x01\xff\x1b[31mjunk\x07\n",
+    "two.journals": JOURNAL + JOURNAL,
+    "keys.journals": JOURNAL + JOURNAL[:9] + "\x04" + 32 * "k" + JOURNAL[9:],
+    "three.journals": JOURNAL + JOURNAL + JOURNAL,
     "odd.hex": "4f5",
     "tiny.hex": "4f",
     "rounds.s": "$TOP/examples/applications/rounds.s",
+    "label.s": ".flags 0\n.pages 1\n" + "".join(f".entry {name} E\n" for name in ("create", "open", "invoke", "close", "destroy")) + "E:\njump AWAY\n",
+    "header.s": ".flags 0\nsys 0\n",
+    "wide.client": CLIENT_BOOT + f"open s {UUID} vi:1\n",
+    "narrow.client": "boot 1 1 1\n",
+    "misspelled.client": CLIENT_BOOT + f"opens s {UUID}\n",
+    "traced.client": CLIENT_BOOT + CALL,
+    "late_name.client": CLIENT_BOOT + "invoke s 0\n",
+    "cancel.client": CLIENT_BOOT + f"open s {UUID}\ninvoke s 0 cancel:0\n",
+    "unready.client": CLIENT_BOOT + f"ta {UUID} 00\nopen s {UUID}\n",
+    "some.threads": BOOT + CALL + "#= ret 0 384fb3e0 ..\n",
+    "wrong.threads": BOOT + CALL + "#= ret 0 OK ..\n",
+    "name.trace": BOOT + CALL + "#= ret 0 OKAY ..\n",
+    "mem.trace": BOOT + "mem 40000000 00\n#= mem 0 40000000 00\n" + CALL,
+    "places/some.trace": BOOT + CALL,
+    "places/some.threads": "cpu 0\n",
+    "folder.boot": BOOT + "files nowhere/objects\n",
+    "file.boot": BOOT + "files good.trace\n",
     "rounds.hex": "$TOP/examples/applications/rounds.hex",
     "add.hex": "$TOP/examples/applications/add.hex",
     "name.client": f"name A {UUID}\nboot 1 2 1\nsmc 0 1 nothing\n",
@@ -76,7 +96,7 @@ FILES = {
 }
 EXECUTABLE = ("sleeps", "quiet", "text_program", "babbles", "ends")
 
-TOOLS = ("annotate", "answers", "arg", "chart", "check", "client_test", "embed", "explain", "image", "known", "known_live", "lift", "live", "live_test", "step")
+TOOLS = ("annotate", "answers", "arg", "bench_test", "chart", "check", "client_test", "client_trace", "embed", "explain", "image", "known", "known_live", "lift", "live", "live_test", "step")
 HELPS = [Mistake(f"{tool}.py asked for help", f"{tool}.py --help", 0, f"usage: {tool}") for tool in TOOLS]
 
 ARGUMENTS = [
@@ -130,6 +150,18 @@ EXPLAIN = [
     Mistake("explain.py: /bin/true as program", "explain.py program=/bin/true good.journal", 1, "true isn't the program"),
     Mistake("explain.py: /bin/cat as program", "explain.py program=/bin/cat good.journal", "12", "cat"),
     Mistake("explain.py: the program of conversations", "explain.py program=$LIVE good.journal", 1, "doesn't audit"),
+    Mistake("explain.py: compare without journals", "explain.py program=$RUN compare 1", 2, "usage"),
+    Mistake("explain.py: compare without a subject", "explain.py program=$RUN compare two.journals", 2, "usage"),
+    Mistake("explain.py: compare, a subject that is none", "explain.py program=$RUN compare one two.journals", 2, "one is no UUID|one is no number"),
+    Mistake("explain.py: compare, one journal", "explain.py program=$RUN compare 1 good.journal", 1, "two journals"),
+    Mistake("explain.py: compare, three journals", "explain.py program=$RUN compare 1 three.journals", 1, "two journals|bad trace"),
+    Mistake("explain.py: compare, no such session", "explain.py program=$RUN compare 1 two.journals", 1, "absent 1.*\njournal 1: no open"),
+    Mistake("explain.py: compare, in two files", "explain.py program=$RUN compare 1 good.journal good.journal", 1, "absent 1.*\njournal 1: no open"),
+    Mistake("explain.py: compare, no such application", f"explain.py program=$RUN compare {UUID} two.journals", 1, "it is no application"),
+    Mistake("explain.py: compare, other keys", "explain.py program=$RUN compare 1 keys.journals", 1, "absent 1"),
+    Mistake("explain.py: compare, a journal that is cut", "explain.py program=$RUN compare 1 good.journal cut.journal", 1, "record .* is cut"),
+    Mistake("explain.py: compare, a wrong journal", "explain.py program=$RUN compare 1 good.journal wrong.journal", 1, "illegal 2 1[\\s\\S]*differs: a3 is a6d5c51b"),
+    Mistake("explain.py: compare, /bin/true as program", "explain.py program=/bin/true compare 1 two.journals", 1, "true isn't the program"),
     Mistake("explain.py: a program that sleeps", "explain.py program=sleeps good.journal", "12", "seconds"),
 ]
 
@@ -146,6 +178,8 @@ CHARTS = [
     Mistake("chart.py: another output", "chart.py good.trace other.out", 1, "line 2"),
     Mistake("chart.py: no output", "chart.py good.trace cut.out", 1, "line 2"),
     Mistake("chart.py: swapped", "chart.py good.out good.trace", "12", "swapped|OUTPUT.*is a trace|is an output"),
+    Mistake("chart.py: a file that can't be written", "chart.py --perfetto nowhere/x good.trace good.out", 2, "nowhere/x: No such file"),
+    Mistake("chart.py: a client's script is told what draws it", "chart.py program=$RUN good.client", "12", "client_trace.py"),
     Mistake("chart.py: a program that isn't there", "chart.py program=no_such good.trace", 2, "no program"),
     Mistake("chart.py: a program that isn't executable", "chart.py program=not_executable good.trace", 2, "execut"),
     Mistake("chart.py: /bin/true as program", "chart.py program=/bin/true good.trace", "12", "true|program"),
@@ -164,6 +198,11 @@ IMAGES = [
     Mistake("image.py: junk", "image.py", "12", "digits", "\x1b[2J\x00"),
     Mistake("step.py: no such image", "step.py no_such open", 2, "No such file"),
     Mistake("step.py: the source of an application", "step.py rounds.s open", "02", "^open begins|asm"),
+    Mistake("step.py: a source with its labels", "step.py rounds.s open", 0, "^open begins[\\s\\S]*-- \\w+ rounds.s:[0-9]+"),
+    Mistake("step.py: a source with a label that isn't there", "step.py label.s open", 1, "label.s:9: .*label"),
+    Mistake("step.py: a source with a bad header", "step.py header.s open", 1, "header.s:2: .*form"),
+    Mistake("step.py: a source, and an entry point is misspelled", "step.py rounds.s opens", 2, "opens.*(open|create)"),
+    Mistake("step.py: an output with a number", "step.py rounds.hex invoke 0 vo:1:2", 2, "vo:1:2.*no parameter"),
     Mistake("step.py: an entry point is misspelled", "step.py rounds.hex opens", 2, "opens.*(open|create)"),
     Mistake("step.py: no entry point", "step.py rounds.hex", 2, "usage"),
     Mistake("step.py: no function", "step.py rounds.hex invoke", 2, "function"),
@@ -194,8 +233,48 @@ CLIENTS = [
     Mistake("client_test.py: a folder as program", "client_test.py program=. good.client", 2, "no program"),
     Mistake("client_test.py: a program that sleeps", "client_test.py program=sleeps good.client", "12", "seconds"),
     Mistake("client_test.py: the program of conversations", "client_test.py program=$LIVE good.client", "12", "optee_run|usage|status 2"),
-    Mistake("client_test.py: an empty script", "client_test.py program=$RUN empty", "125", "no call|0 calls"),
+    Mistake("client_test.py: an empty script", "client_test.py program=$RUN empty", "125", "no call|0 calls|no line was compared"),
     Mistake("client_test.py: junk", "client_test.py program=$RUN junk", "125", ""),
+]
+
+TRACED = [
+    Mistake("client_trace.py: no such script", "client_trace.py program=$LIVE no_such", 2, "No such file"),
+    Mistake("client_trace.py: no script", "client_trace.py program=$LIVE", 2, "usage"),
+    Mistake("client_trace.py: the program of traces", "client_trace.py program=$RUN good.client", 1, "optee_run|ended with status 2"),
+    Mistake("client_trace.py: /bin/cat as program", "client_trace.py program=/bin/cat good.client", 1, "cat"),
+    Mistake("client_trace.py: a program that sleeps", "client_trace.py program=sleeps good.client", 1, "seconds"),
+    Mistake("client_trace.py: not executable", "client_trace.py program=not_executable good.client", 2, "execut"),
+    Mistake("client_trace.py: no such image", "client_trace.py program=$LIVE no_image.client", 1, "no_such.hex"),
+    Mistake("client_trace.py: an image that is none", "client_trace.py program=$LIVE unready.client", 1, "line 3: bad image"),
+    Mistake("client_trace.py: a call is misspelled", "client_trace.py program=$LIVE misspelled.client", 1, "line 2: opens"),
+    Mistake("client_trace.py: a trace", "client_trace.py program=$LIVE traced.client", 1, "line 2: smc is no line of a client"),
+    Mistake("client_trace.py: a parameter lacks a number", "client_trace.py program=$LIVE wide.client", 1, "line 2: vi:1 is no parameter.*vi:A:B"),
+    Mistake("client_trace.py: one thread", "client_trace.py program=$LIVE narrow.client", 1, "line 1: .*two threads"),
+    Mistake("client_trace.py: a name that was never opened", "client_trace.py program=$LIVE late_name.client", 1, "line 2: s was never opened"),
+    Mistake("client_trace.py: a cancel before no return", "client_trace.py program=$LIVE cancel.client", 1, "line 3: cancel:0"),
+    Mistake("client_trace.py: no steps", "client_trace.py program=$LIVE steps=0 good.client", 2, "usage|steps"),
+    Mistake("client_trace.py: too many steps", "client_trace.py program=$LIVE steps=1000001 good.client", 2, "usage|steps"),
+    Mistake("client_trace.py: its own trace", "client_trace.py program=$LIVE good.client | exec $TOOLS/client_trace.py program=$LIVE -", 1, "line [0-9]+: .*no line of a client"),
+    Mistake("client_trace.py: is a trace", "client_trace.py program=$LIVE good.client | exec $RUN run", 0, "^ret 0 00000000[\\s\\S]*mem 0 40000000 "),
+]
+
+BENCHES = [
+    Mistake("bench_test.py: no words", "bench_test.py", 2, "usage"),
+    Mistake("bench_test.py: no such file", "bench_test.py program=$RUN no_such.trace", 2, "No such file"),
+    Mistake("bench_test.py: a name that is no test's", "bench_test.py program=$RUN good.out", 2, "is no test.*\\.trace"),
+    Mistake("bench_test.py: a folder without tests", "bench_test.py program=$RUN no_scripts", 5, "no line was compared"),
+    Mistake("bench_test.py: no line is wanted", "bench_test.py program=$RUN good.trace", 5, "no line was compared"),
+    Mistake("bench_test.py: by threads", "bench_test.py program=$RUN some.threads", 0, "1 lines? compared"),
+    Mistake("bench_test.py: by threads, another answer", "bench_test.py program=$RUN wrong.threads", 1, "wrong.threads:2: smc"),
+    Mistake("bench_test.py: an output of threads beside its trace", "bench_test.py program=$RUN places", 5, "1 cases"),
+    Mistake("bench_test.py: an answer is misspelled", "bench_test.py program=$RUN name.trace", 1, "OKAY is no answer"),
+    Mistake("bench_test.py: a wanted line behind one that prints nothing", "bench_test.py program=$RUN mem.trace", 1, "mem.trace:3: [\\s\\S]*no line that prints"),
+    Mistake("bench_test.py: /bin/true as program", "bench_test.py program=/bin/true some.threads", 1, "true isn't the program"),
+    Mistake("bench_test.py: /bin/cat as program", "bench_test.py program=/bin/cat some.threads", 1, "cat (isn't|ended).*program"),
+    Mistake("bench_test.py: a program that sleeps", "bench_test.py program=sleeps some.threads", 1, "some.threads[\\s\\S]*seconds"),
+    Mistake("bench_test.py: no processes", "bench_test.py program=$RUN -j 0 some.threads", 2, "usage"),
+    Mistake("bench_test.py: nothing behind an option", "bench_test.py program=$RUN some.threads --json", 2, "--json"),
+    Mistake("bench_test.py: a file that can't be written", "bench_test.py program=$RUN --json nowhere/x some.threads", 2, "nowhere/x: No such file"),
 ]
 
 SCRIPTS = [
@@ -229,6 +308,10 @@ PROMPTS = [
     Mistake("live.py: no such description", "live.py program=$LIVE boot=no_such", 2, "No such file"),
     Mistake("live.py: a description with a bad line", "live.py program=$LIVE boot=bad.boot", 2, "bad.boot:1: another number"),
     Mistake("live.py: a description with an unknown word", "live.py program=$LIVE boot=word.boot", 2, "word.boot:2: a word"),
+    Mistake("live.py: a description whose files lie nowhere", "live.py program=$LIVE boot=folder.boot", 2, "folder.boot:2: a folder that can't be made"),
+    Mistake("live.py: a description whose files lie in a file", "live.py program=$LIVE boot=file.boot", 2, "file.boot:2: a folder that can't be made"),
+    Mistake("live.py: a log in no folder", "live.py program=$LIVE log=nowhere/x", 2, "nowhere/x: No such file", BOOT),
+    Mistake("live.py: a log that is a folder", "live.py program=$LIVE log=.", 2, "directory", BOOT),
     Mistake("live.py: a call before the boot", "live.py program=$LIVE notes", 0, "= place: .*boot", CALL),
     Mistake("live.py: a resume of no call", "live.py program=$LIVE notes", 0, "ERESUME: thread 0 is free", BOOT + CALL.replace("bf00ff01", "32000003")),
     Mistake("live.py: CRLF", "live.py program=$LIVE notes", 0, "carriage|CR|\\\\r", (BOOT + CALL).replace("\n", "\r\n")),
@@ -286,4 +369,4 @@ OTHERS = [
     Mistake("optee_live: a word", "$LIVE x", 2, "usage: optee_live"),
 ]
 
-ALL = [*HELPS, *ARGUMENTS, *ANNOTATE, *EXPLAIN, *CHARTS, *IMAGES, *CLIENTS, *SCRIPTS, *PROMPTS, *MODULE, *OTHERS]
+ALL = [*HELPS, *ARGUMENTS, *ANNOTATE, *EXPLAIN, *CHARTS, *IMAGES, *CLIENTS, *TRACED, *BENCHES, *SCRIPTS, *PROMPTS, *MODULE, *OTHERS]

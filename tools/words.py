@@ -60,6 +60,14 @@ def text_of(name):
         raise BadWords(f"{name}: {error.strerror}") from error
 
 
+def write_text(name, text):
+    """Writes the text of a file."""
+    try:
+        pathlib.Path(name).write_text(text, encoding="utf-8")
+    except OSError as error:
+        raise BadWords(f"{name}: {error.strerror}") from error
+
+
 def plain(text):
     """A text in which control characters stand as \\xNN, so that no terminal obeys them."""
     return text.translate(CONTROLS)
