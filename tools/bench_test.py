@@ -49,6 +49,7 @@ WORDS = {".trace": "run", ".script": "run", ".threads": "threads", ".signals": "
 MARK, SERVE, REST, NOTE = "#=", "#! serve", "..", "= "
 ANSWERS = {name: code for table in (formats.CODES, formats.RPCS) for code, name in table.items()}
 ORIGINS = {name: origin for origin, name in formats.ORIGINS.items()}
+OF_TRACES = {*formats.LINES, "signal"} - {*plays.HEADER}
 NO_CASE = 5
 
 # What differs at a line of a file: its number and text, what was wanted and what came, each as lines, and what differs by name.
@@ -162,6 +163,9 @@ def play(path, word, runner):
     """Runs a trace or a script."""
     text = text_of(path)
     lines = lift.placed(text, pathlib.Path(path).parent)
+    other = item_of_trace(lines) if word == "client" else None
+    if other:
+        return 0, [other]
     trace = "".join(f"{line}\n" for _, line in lines)
     done = runner.run([word], trace)
     refused = refusal_of(done, lines)
@@ -176,6 +180,15 @@ def play(path, word, runner):
         return 0, [Failure(0, "", got=[f"{runner.file} isn't the program of crates/optee_run: {mismatch}"])]
     count, failures = wanted_lines(printed, enumerate(text.splitlines(), 1))
     return count, with_panics(failures, path, text, lines, done) if word == "client" else failures
+
+
+def item_of_trace(lines):
+    """The failure of a client's script in which an item of a trace stands, or None."""
+    for place, line in lines:
+        word = line.split(" ")[0]
+        if word in OF_TRACES:
+            return Failure(place, line, got=[f"{word} is an item of a trace, and no call of a client"])
+    return None
 
 
 def refusal_of(done, lines):

@@ -227,12 +227,14 @@ def played(trace, runner):
 
 def refuse_others(trace):
     """A Mismatch where an item of the trace is none that is drawn."""
-    for place, line in enumerate(trace.splitlines(), 1):
+    lines = list(enumerate(trace.splitlines(), 1))
+    for place, line in lines:
         word = line.split(" ")[0]
         if word == "signal":
             raise plays.Mismatch(f"line {place}: a trace with signals isn't drawn: it has no place for them")
         if word in plays.CLIENT_CALLS:
             raise plays.Mismatch(f"line {place}: a client's script isn't drawn: client_trace.py writes a trace of its calls, which is")
+    for place, line in lines:
         plays.refuse_script(place, line)
 
 

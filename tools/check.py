@@ -581,7 +581,8 @@ def check_threads(comparison):
     with tempfile.TemporaryDirectory() as folder:
         for name in ("a.trace", "a.threads", "b.threads"):
             pathlib.Path(folder, name).touch()
-        comparison.same("bench_test.py: tests of a folder", [pathlib.Path(path).name for path in bench_test.paths_of([folder])], ["a.trace", "b.threads"])
+        found = [pathlib.Path(path).name for path in bench_test.paths_of([folder])]
+        comparison.same("bench_test.py: tests of a folder", found, ["a.trace", "b.threads"])
 
 
 def prints(line, cpu):

@@ -367,7 +367,12 @@ invoke returns 00000000 0000000c in 6 steps v:0000000c:00000000
 
 # Lines that step.py prints of texts for the assembler: where it comes to another label, a line of the text, and where a panic is.
 STEPS_OF_TEXTS = {
-    "counter invoke 0 vo": ["-- COUNT counter.s:19", "    2    3  bne r1 r3 BAD_PARAMETERS", "-- OPENED counter.s:41", "    3    4  const r3 0x6e756f63       r3 6e756f63"],
+    "counter invoke 0 vo": [
+        "-- COUNT counter.s:19",
+        "    2    3  bne r1 r3 BAD_PARAMETERS",
+        "    3    4  const r3 0x6e756f63       r3 6e756f63",
+        "-- OPENED counter.s:41",
+    ],
     "add invoke 0": [
         "-- SUM add.s:17",
         "invoke panics with 00000005 at 2: no such parameter, or an object handle that isn't open (SUM add.s:20)",
@@ -432,7 +437,9 @@ CLIENT_OPEN = (  # of cancel id 1
 ).replace(" ", "")
 CLIENT_INVOKE = ("01000000 fa000000 01000000 01000000 00000000 00000000 00000000 01000000" + "0200000000000000" + 3 * NO_BYTES).replace(" ", "")
 CLIENT_CANCEL = "03000000 00000000 01000000 01000000 00000000 00000000 00000000 00000000".replace(" ", "")
-SUSPEND = ("05000000 00000000 00000000 00000000 00000000 0000ffff 00000000 01000000" + "0100000000000000 fa00000000000000").replace(" ", "") + 2 * NO_BYTES
+SUSPEND = (
+    "05000000 00000000 00000000 00000000 00000000 0000ffff 00000000 01000000" + "0100000000000000 fa00000000000000" + 2 * NO_BYTES
+).replace(" ", "")
 OK = "ret 0" + 8 * " 00000000"
 RETURNED = "smc 0 10000 32000003 0 0 0 0 0 0 0"
 CALLED = "smc 0 10000 32000004 0 {address} 0 0 0 0 0"

@@ -29,6 +29,7 @@ import program
 from words import BadWords, plain, run, text_of, uuid
 
 MOST_TOLD, MOST_SHOWN = 12, 64  # events that are told of a call; characters of a part that differs
+ALL = 2**32  # more than any journal's events
 
 
 def read(data):
@@ -179,9 +180,11 @@ class Comparison:
         return self.runner.run(["compare", self.subject], (one + two).decode("latin-1")).output.strip()
 
     def own_events(self, side, count):
-        """How many of the session's own events the first events of a side are; one that has them all has more than any."""
-        said = self.said(side.front(count), side.data).split(" ")
-        return {"absent": -1, "events": int(said[1])}.get(said[0], 2**32)
+        """How many of the session's own events the first events of a side are: -1 before its open, and more than any with all of them."""
+        word, *numbers = self.said(side.front(count), side.data).split(" ")
+        if word not in ("absent", "events", "same"):
+            raise plays.Mismatch(f"{self.runner.file} doesn't compare a journal with its own front")
+        return int(numbers[0]) if word == "events" else -1 if word == "absent" else ALL
 
     def opening(self, side):
         """The place of the event that begins the session: its open comes in."""
@@ -244,7 +247,7 @@ def head_of(event):
 
 def asked_by(event):
     """What a new call asks for, whatever the number of its session."""
-    head = head_of(event)
+    head = head_of(event) if event.registers[0] in calls.NEW_CALLS else None
     return re.sub(" (in|of) session [0-9]+", "", calls.asked_by(head)) if head else "a call that was not read"
 
 
