@@ -24,7 +24,7 @@ import sys
 import tempfile
 
 from translator import Refused, build
-from words import BadWords, number, run
+from tulgexar.words import BadWords, number, run
 
 LEVELS = ("s", "0", "1", "2", "3")
 TAKING = ("-o", "-O", "-I", "-D", "--pages", "--keep")

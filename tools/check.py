@@ -18,31 +18,34 @@ import subprocess
 import sys
 import tempfile
 
-import annotate
-import answers
-import arg
-import assembler
-import bench_test
-import chart
-import client
-import client_trace
 import conversations
 import documented
 import expected
-import explain
-import formats
-import image
-import journal
-import lift
-import live
+import packaged  # noqa: F401  (where tulgexar is)
 import pages
-import places
-import plays
-import program
 import shipped
-import story
-import supplicant
-from words import BadWords, run
+from tulgexar import (
+    annotate,
+    answers,
+    arg,
+    assembler,
+    bench_test,
+    chart,
+    client,
+    client_trace,
+    explain,
+    formats,
+    image,
+    journal,
+    lift,
+    live,
+    places,
+    plays,
+    program,
+    story,
+    supplicant,
+)
+from tulgexar.words import BadWords, run
 
 FOLDER = shipped.ROOT / "tools"
 

@@ -7,7 +7,7 @@ import shipped
 
 PAGES = [
     path.resolve()
-    for pattern in ("README.md", "docs/*.md", "tools/README.md", "bench/README.md", "examples/README.md", "sdk/README.md", "embed/*/README.md")
+    for pattern in ("README.md", "docs/*.md", "tools/README.md", "bench/README.md", "examples/README.md", "sdk/README.md", "python/README.md", "embed/*/README.md")
     for path in sorted(shipped.ROOT.glob(pattern))
 ]
 

@@ -14,8 +14,9 @@ import subprocess
 import sys
 import tempfile
 
+import packaged  # noqa: F401  (where tulgexar is)
 import shipped
-from words import BadWords, run
+from tulgexar.words import BadWords, run
 
 EMBED = shipped.ROOT / "embed"
 CRATE = shipped.ROOT / "crates/core_c"

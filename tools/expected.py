@@ -521,7 +521,7 @@ BAD_WORDS = {
     "known.py": [""],
     "known_live.py": ["x"],
     "live.py": ["x", "serve serve", "program=no_such_file", "boot=no_such_file", "log=no_such_folder/x"],
-    "live_test.py": ["x", "program=no_such_file"],
+    "live_test.py": ["x", "program=no_such_file", "turns=999", "turns=many"],
     "step.py": ["", "-", "- opens", "- invoke", "- invoke x", "- close vo", "- invoke 0 vi:1", "- open mi:", "- open r16=0"],
 }
 # Calls on a supplicant's files, one after the other, and what each gives.

@@ -9,8 +9,9 @@ usage: known.py WORD.. < INPUT
 
 import sys
 
+import packaged  # noqa: F401  (where tulgexar is)
 import shipped
-from words import BadWords, run
+from tulgexar.words import BadWords, run
 
 
 def answered(words, text):

@@ -9,7 +9,8 @@ usage: known_live.py < LINES
 import sys
 
 import conversations
-from words import BadWords, run
+import packaged  # noqa: F401  (where tulgexar is)
+from tulgexar.words import BadWords, run
 
 
 def main(words):

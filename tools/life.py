@@ -5,9 +5,9 @@ import collections
 import hashlib
 import struct
 
-import arg
-import formats
+import packaged  # noqa: F401  (where tulgexar is)
 import shipped
+from tulgexar import arg, formats
 
 ADD, CLOCK, PANIC = (f"{digit}1111111-2222-3333-4444-555555555555" for digit in "123")
 DIGEST = "3f0c7a11-52b8-4d6e-9a40-0e6b5d2c8f01"  # built in

@@ -24,16 +24,14 @@ import tempfile
 import threading
 import time
 
-import arg
 import conversations
-import formats
 import life
-import live
-import program
+import packaged  # noqa: F401  (where tulgexar is)
 import shipped
 from check import Comparison
 from embed import compiler
-from words import BadWords, number, run
+from tulgexar import arg, formats, live, program
+from tulgexar.words import BadWords, number, run
 
 PATIENCE = 20  # seconds
 MOMENT = 0.2
@@ -51,7 +49,7 @@ REFUSED = [
 ]
 KEPT = {"sessions": 0, "buffers": 0, "pages": 1, "events": 2, "copied": 0}  # of a core of one page, behind a call
 SHARED = "11111111-2222-3333-4444-555555555555"  # an application whose sessions share one instance
-CALL = [formats.CALL_WITH_ARG, 0, live.RAM_START]
+CALL = [formats.CALL_WITH_ARG, 0, formats.RAM_START]
 ASKED = ["state", "session 1", "buffer 40010000", "events 0 3"]  # behind each line
 AT_ONCE = 200  # lines of a life, whose answers the pipe holds
 TURNS, FEWEST_TURNS = 1_000_000, 1000  # of a long life
@@ -245,10 +243,10 @@ def try_sleepers(tests):
             talk.ask(line)
         driver = live.Driver(talk)
         for words in (f"open {SHARED}", f"open {SHARED}"):
-            talk.write(0, live.RAM_START, arg.argument(words.split()))
+            talk.write(0, formats.RAM_START, arg.argument(words.split()))
             driver.call(0, CALL)
         for cpu in (0, 1):
-            talk.write(cpu, live.RAM_START, arg.argument(f"invoke {cpu + 1} 5".split()))
+            talk.write(cpu, formats.RAM_START, arg.argument(f"invoke {cpu + 1} 5".split()))
         talk.ask("enter 0 1000 " + " ".join(f"{register:x}" for register in [*CALL, 0, 0, 0, 0, 0]))
         try:
             driver.call(1, CALL)
@@ -256,7 +254,7 @@ def try_sleepers(tests):
             driver.supplicant.begins(0, CALL)
             tests.same("the holder", driver.serve(0, live.registers_of(talk.ask("leave 0"))), [0] * 8)
             tests.same("the sleeper", driver.go_on(asleep.cpu, asleep.registers), [0] * 8)
-        results = [talk.read(cpu, live.RAM_START + 20, 8).hex() for cpu in (0, 1)]
+        results = [talk.read(cpu, formats.RAM_START + 20, 8).hex() for cpu in (0, 1)]
         tests.same("both results", results, ["0000000004000000"] * 2)
 
 
@@ -279,7 +277,7 @@ def try_questions(tests):
             for line, _ in case.turns:
                 if line != "watch off":
                     talk.send(line)
-            seen = [talk.read(cpu, live.RAM_START, live.RAM_BYTES) == ram for cpu, ram in enumerate(talk.ram)]
+            seen = [talk.read(cpu, formats.RAM_START, live.RAM_BYTES) == ram for cpu, ram in enumerate(talk.ram)]
             tests.same(f"{case.name}, its copies of RAM", seen, [True] * len(seen))
 
 
@@ -347,13 +345,13 @@ def drawn_argument(chance):
         f"close {session}", "register 40020000 8192 1", "unregister 1",
     )
     words = chance.choices(calls, weights=(4, 6, 2, 2, 1, 1, 1))[0]
-    return f"write {chance.randrange(2)} {live.RAM_START:x} {arg.argument(words.split()).hex()}"
+    return f"write {chance.randrange(2)} {formats.RAM_START:x} {arg.argument(words.split()).hex()}"
 
 
 def drawn_entry(chance):
     """Registers of a call or of a resume, with some client, thread and buffer."""
     client, thread, buffer = chance.choice([0, 0, 0, 1]), chance.randrange(4), chance.choice([0x4003_0000, 0])
-    calls = [*CALL, 0, 0, 0, 0, client], [formats.CALL_WITH_RPC_ARG, 0, live.RAM_START, 0, 0, 0, 0, client]
+    calls = [*CALL, 0, 0, 0, 0, client], [formats.CALL_WITH_RPC_ARG, 0, formats.RAM_START, 0, 0, 0, 0, client]
     resume = [formats.RETURN_FROM_RPC, 0, buffer, thread, 0, thread, 0, client]
     registers = " ".join(f"{register:x}" for register in chance.choice([*calls, resume, resume, resume]))
     return f"{chance.choice(['smc', 'smc', 'smc', 'enter'])} {chance.randrange(2)} {chance.choice([1, 1000, 1000])} {registers}"

@@ -96,7 +96,7 @@ FILES = {
 }
 EXECUTABLE = ("sleeps", "quiet", "text_program", "babbles", "ends")
 
-TOOLS = ("annotate", "answers", "arg", "bench_test", "chart", "check", "client_test", "client_trace", "embed", "explain", "image", "known", "known_live", "lift", "live", "live_test", "step")
+TOOLS = ("annotate", "answers", "arg", "bench_test", "chart", "check", "client_test", "client_trace", "embed", "explain", "image", "known", "known_live", "lift", "live", "live_test", "step", "quick", "package_test")
 HELPS = [Mistake(f"{tool}.py asked for help", f"{tool}.py --help", 0, f"usage: {tool}") for tool in TOOLS]
 
 ARGUMENTS = [
@@ -352,6 +352,12 @@ OTHERS = [
     Mistake("known.py: no words", "known.py", 2, "usage"),
     Mistake("known.py: an input that no case has", "known.py run", 1, "no case", "boots\n"),
     Mistake("known_live.py: a line that no case has", "known_live.py", 1, "no case", "boots\n"),
+    Mistake("quick.py: no words", "quick.py", 2, "usage: quick.py CRATE"),
+    Mistake("quick.py: a crate is misspelled", "quick.py optee_lvie", 2, "optee_lvie is no crate: optee_live may be meant"),
+    Mistake("quick.py: a library", "quick.py live_player", 2, "live_player is a library: the programs are cases"),
+    Mistake("quick.py without rt", "env PATH=/usr/bin:/bin $TOOLS/quick.py optee_live", 2, "no rt is on the PATH"),
+    Mistake("package_test.py: no such program", "package_test.py live=no_such", 2, "no program"),
+    Mistake("package_test.py: a word", "package_test.py x", 2, "usage: package_test.py"),
     Mistake("embed.py without rt", "env PATH=/usr/bin:/bin $TOOLS/embed.py", "12", "rt"),
     Mistake("embed.py: a word", "embed.py x", 2, "usage"),
     Mistake("embed: make without the library", "make -C $TOP/embed OUT=$PWD LIBRARY=no_such.a $PWD/bench", 2, "rt lib"),
@@ -361,7 +367,7 @@ OTHERS = [
     Mistake("live_bench.py: no such program", "env PYTHONPATH=$TOOLS python3 $TOP/examples/live_bench.py no_such", 2, "no program"),
     Mistake("live_fuzzer.py without words", "env PYTHONPATH=$TOOLS python3 $TOP/examples/live_fuzzer.py", 2, "usage"),
     Mistake("live_fuzzer.py: a seed that is no number", "env PYTHONPATH=$TOOLS python3 $TOP/examples/live_fuzzer.py $LIVE x 10", 2, "x.*number|usage"),
-    Mistake("a Python that is too old", "python -c \"import sys; sys.version_info = (3, 8, 0); import words\"", 1, "3\\.(9|10)"),
+    Mistake("a Python that is too old", "python -c \"import sys; sys.version_info = (3, 8, 0); import live\"", 1, "3\\.(9|10)"),
     Mistake("optee_run without words", "$RUN", 2, "usage: optee_run run"),
     Mistake("optee_run: a misspelled word", "$RUN runs", 2, "usage: optee_run run"),
     Mistake("optee_run: a script", "$RUN run", 3, "bad trace 2 ", BOOT + "smc 0 1 CALLS_UID\n"),

@@ -19,9 +19,10 @@ import sys
 import tempfile
 
 import mistakes
-import program
+import packaged  # noqa: F401  (where tulgexar is)
 import shipped
-from words import BadWords, number, run
+from tulgexar import program
+from tulgexar.words import BadWords, number, run
 
 FOLDER = shipped.ROOT / "tools"
 PATIENCE = 100

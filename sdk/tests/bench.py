@@ -6,10 +6,9 @@ import sys
 
 TESTS = pathlib.Path(__file__).resolve().parent
 SDK, ROOT = TESTS.parent, TESTS.parent.parent
-sys.path[:0] = [str(SDK), str(ROOT / "tools")]
+sys.path[:0] = [str(SDK), str(ROOT / "python")]
 
-import bench_test  # noqa: E402
-import program  # noqa: E402
+from tulgexar import bench_test, program  # noqa: E402
 
 
 class Report:

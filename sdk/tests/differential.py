@@ -30,7 +30,7 @@ sys.path[:0] = [str(SDK), str(HERE)]
 
 import dense  # noqa: E402
 from translator import Refused, build, toolchain  # noqa: E402
-from words import BadWords, number, run  # noqa: E402
+from tulgexar.words import BadWords, number, run  # noqa: E402
 
 CSMITH = pathlib.Path("/usr/include/csmith")
 PACKAGES = {"qemu-riscv32": "qemu-user", "gcc": "gcc-multilib", "csmith": "csmith"}

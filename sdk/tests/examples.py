@@ -11,8 +11,8 @@ import sys
 import tempfile
 
 import bench
-import program
-from words import BadWords, run
+from tulgexar import program
+from tulgexar.words import BadWords, run
 
 ENDS = (".hex", ".s", ".map")
 

@@ -13,7 +13,7 @@ import sys
 import tempfile
 
 import bench
-from words import BadWords, number, run
+from tulgexar.words import BadWords, number, run
 
 # By its name: the file, what stands there, and what is put in its place.
 MISTAKES = {
@@ -67,7 +67,7 @@ def found_by(name, count):
     with tempfile.TemporaryDirectory() as folder:
         copy = pathlib.Path(folder, "sdk")
         shutil.copytree(bench.SDK, copy, ignore=shutil.ignore_patterns("__pycache__", "examples"))
-        pathlib.Path(folder, "tools").symlink_to(bench.ROOT / "tools")
+        pathlib.Path(folder, "python").symlink_to(bench.ROOT / "python")
         edited = copy / "translator" / file
         text = edited.read_text()
         if text.count(old) != 1:

@@ -14,7 +14,7 @@ import sys
 import tempfile
 
 import bench
-from words import BadWords, run
+from tulgexar.words import BadWords, run
 
 HEADER = (bench.TESTS / "random/user_ta_header_defines.h").read_text()
 APPLICATION = (bench.TESTS / "random/application.c").read_text()

@@ -14,8 +14,8 @@
 import pathlib
 import sys
 
-# The tables of docs/formats.md are those of the tools.
-sys.path.insert(1, str(pathlib.Path(__file__).resolve().parents[2] / "tools"))
+# The tables of docs/formats.md are those of the package tulgexar, on which the tools stand.
+sys.path.insert(1, str(pathlib.Path(__file__).resolve().parents[2] / "python"))
 
 
 class Refused(Exception):

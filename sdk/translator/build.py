@@ -3,7 +3,7 @@
 import collections
 import struct
 
-import formats
+from tulgexar import formats
 
 from . import Refused, cleanup, code, lowering, stack, toolchain
 from .elf import Elf

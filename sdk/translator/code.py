@@ -3,7 +3,7 @@
 import collections
 import struct
 
-import formats
+from tulgexar import formats
 
 from . import flow
 from .flow import Step, mask

@@ -4,7 +4,7 @@ The machine has no operands that are numbers: a number stands in a register. Mos
 which numbers, to take one that does, and else to load the number into a register that nobody reads later.
 """
 
-import formats
+from tulgexar import formats
 
 from . import Refused, helpers
 from .code import (

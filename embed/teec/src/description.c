@@ -1,4 +1,4 @@
-/* Reads boot descriptions. tools/description.py reads them too, and says the same causes. */
+/* Reads boot descriptions. python/tulgexar/description.py reads them too, and says the same causes. */
 #include "description.h"
 
 #include "parts.h"

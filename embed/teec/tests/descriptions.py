@@ -8,10 +8,9 @@ import sys
 import tempfile
 
 TESTS = pathlib.Path(__file__).resolve().parent
-sys.path.insert(0, str(TESTS.parent.parent.parent / "tools"))
+sys.path.insert(0, str(TESTS.parent.parent.parent / "python"))
 
-import description  # noqa: E402
-import live  # noqa: E402
+from tulgexar import description, live  # noqa: E402
 
 
 def blocks():

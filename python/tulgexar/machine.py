@@ -6,8 +6,7 @@ It is written from that page alone, step by step, so that what it does can be co
 import collections
 import re
 
-import formats
-import objects
+from tulgexar import formats, objects
 
 PARAMETER = re.compile("none|vo|(vi|vio):[0-9a-fA-F]{1,8}:[0-9a-fA-F]{1,8}|(mi|mio):([0-9a-fA-F]{2})+|mo:[1-9][0-9]{0,4}")
 MOST_PARAMETER_BYTES = 65_536

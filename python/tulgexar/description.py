@@ -7,6 +7,7 @@ import dataclasses
 import os
 import pathlib
 import re
+from collections.abc import Iterator
 
 UUID = re.compile("[0-9a-f]{8}(-[0-9a-f]{4}){3}-[0-9a-f]{12}", re.IGNORECASE)
 HEXADECIMAL = re.compile("[0-9a-f]*", re.IGNORECASE)
@@ -29,16 +30,16 @@ class Description:
     cpus: int = 0
     threads: int = 0
     frames: int = 0
-    applications: dict = dataclasses.field(default_factory=dict)  # UUID: digits of its image
-    key: str = None  # 64 digits
-    program: pathlib.Path = None
-    files: pathlib.Path = None
+    applications: dict[str, str] = dataclasses.field(default_factory=dict)  # UUID: digits of its image
+    key: str | None = None  # 64 digits
+    program: pathlib.Path | None = None
+    files: pathlib.Path | None = None
     is_virtual: bool = False  # the clock
     steps: int = 100_000  # that one entry is granted
     limit: int = 10_000  # milliseconds
     has_history: bool = False
 
-    def lines(self):
+    def lines(self) -> Iterator[str]:
         """The lines that boot the core, without the one for its history."""
         yield f"boot {self.cpus} {self.threads} {self.frames}"
         for uuid, digits in self.applications.items():
@@ -183,7 +184,7 @@ def digits_of(digits):
     return digits
 
 
-def read(path):
+def read(path: str | os.PathLike[str]) -> Description:
     """Reads a description."""
     path = pathlib.Path(path)
     try:

@@ -4,7 +4,7 @@ import collections
 import hashlib
 import hmac
 
-import formats
+from tulgexar import formats
 
 RESULTS = {name: result for result, name in formats.RESULTS.items()}
 HEAD_BYTES, TAG_BYTES, PIECE_BYTES = 8, 32, formats.BUFFER_BYTES - formats.PAYLOAD_AT

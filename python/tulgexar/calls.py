@@ -5,7 +5,7 @@ import collections
 import struct
 import uuid
 
-import formats
+from tulgexar import formats
 
 NEW_CALLS = (formats.CALL_WITH_ARG, formats.CALL_WITH_RPC_ARG, formats.CALL_WITH_REGD_ARG)
 ERESUME = 3

@@ -4,10 +4,8 @@ import collections
 import pathlib
 import re
 
-import calls
-import formats
-import messages
-from words import text_of
+from tulgexar import calls, formats, messages
+from tulgexar.words import text_of
 
 # A line of the trace; what it printed, and what that says in words; the name of an answer; the result of a call, as
 # (result, origin), where the line shows one; what is said of a call as it enters.

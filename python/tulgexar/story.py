@@ -3,10 +3,7 @@
 import collections
 import re
 
-import calls
-import formats
-import messages
-import plays
+from tulgexar import calls, formats, messages, plays
 
 REFUSED = ("ETHREAD_LIMIT", "EBADADDR", "EBADCMD")
 VERBS = {name: name.split("_")[0].lower() for name in formats.COMMANDS.values()}

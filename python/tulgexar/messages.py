@@ -2,7 +2,7 @@
 
 import collections
 
-import formats
+from tulgexar import formats
 
 Field = collections.namedtuple("Field", "at size name index", defaults=[None])
 

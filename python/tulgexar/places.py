@@ -9,9 +9,8 @@ import bisect
 import pathlib
 import re
 
-import formats
-import machine
-from words import BadWords, octets, text_of
+from tulgexar import formats, machine
+from tulgexar.words import BadWords, octets, text_of
 
 # Codes of panics that an application in C has of the sdk, by its page.
 SDK_PANICS = {16: "an assertion, or a trap of the compiler", 17: "a call by a pointer that is no function's"}

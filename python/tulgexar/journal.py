@@ -4,8 +4,7 @@ import collections
 import struct
 import uuid
 
-import calls
-import plays
+from tulgexar import calls, plays
 
 MAGIC, END = b"OTTJ", 0x7F
 REGISTERS = struct.Struct("<8I")

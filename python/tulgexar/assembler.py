@@ -7,9 +7,7 @@ which line of the text each instruction is.
 import collections
 import re
 
-import formats
-import image
-import places
+from tulgexar import formats, image, places
 
 LABEL, REGISTER = "[A-Za-z][A-Za-z0-9_]*", "r(0|[1-9]|1[0-5])"
 OPCODES = {name: op for op, (name, *_) in formats.OPERATIONS.items()}

@@ -3,13 +3,8 @@ by itself: check.py compares what it says with what the word `client` has printe
 
 import collections
 import hashlib
-import re
 
-import formats
-import image
-import machine
-import objects
-import places
+from tulgexar import image, machine, objects, places
 
 SINGLE, MULTI, KEEP = 1 << 2, 1 << 3, 1 << 4
 DIGEST = "3f0c7a11-52b8-4d6e-9a40-0e6b5d2c8f01"

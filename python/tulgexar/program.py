@@ -6,20 +6,26 @@ import pathlib
 import subprocess
 import tempfile
 
-from words import BadWords
+from tulgexar.words import BadWords
 
 PATIENCE = 60  # seconds that a run may take
-CRATES = pathlib.Path(__file__).resolve().parent.parent / "crates"
+CRATES = pathlib.Path(__file__).resolve().parents[2] / "crates"  # in a clone
+
+# The variables of the environment that name programs.
+VARIABLES = {"optee_run": "TULGEXAR_RUN", "optee_live": "TULGEXAR_LIVE"}
 
 # What the program has written for some words and an input, and its status.
 Done = collections.namedtuple("Done", "output status")
 
 
 def found(name, file=None):
-    """The path of a program: what `rt run` has built in the crate of its name, or the file that a word names."""
+    """The path of a program: the file that is given, or that its variable names, or what `rt run` has built in the crate of its name."""
+    file = file or os.environ.get(VARIABLES[name])
+    how = f"`rt run` in crates/{name} builds one, and program=FILE or {VARIABLES[name]} names another"
+    if file is None and not CRATES.is_dir():
+        raise BadWords(f"no program is named, and there is no clone around: {how}")
     path = pathlib.Path(file).resolve() if file else CRATES / name / "out" / name
     if not path.is_file():
-        how = f"`rt run` in crates/{name} builds one, and program=FILE names another"
         raise BadWords(f"{path} is no program: {how}")
     if not os.access(path, os.X_OK):
         raise BadWords(f"{path} is no program: it isn't executable")
