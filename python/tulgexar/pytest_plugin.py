@@ -1,0 +1,185 @@
+"""A plugin for pytest: each test has a core of its own, and what was said with it is kept where the test fails.
+
+Fixtures:
+    core    a core.Core, booted as the test's marker `boot` says; it ends with the test
+    cores   makes such cores, for a test that needs several, or a new one for each example of hypothesis: `with cores() as core:`
+The marker has the path of a boot description, beside the test's file, or what core.booted takes, and besides `watch=True`, by which exits
+are watched: `@pytest.mark.boot("boot.txt")`, `@pytest.mark.boot(threads=3, applications={UUID: "add.hex"})`. What a call of `cores` is given
+stands in its place.
+The program is --core-program FILE, that of the description, TULGEXAR_LIVE of the environment, or, in a clone, what `rt run` has built.
+
+Of a test that fails stand in --core-kept FOLDER (failed-cores), in a folder of the test's name: `core.log`, what was said, and what it
+means; `core.trace`, which the program `run` plays again; and `core.svg`, a picture of it, or where it is long `core.json`, for a viewer of
+Chrome's or Perfetto's traces. Of several cores those that the test had left open are kept, and the last one that it has closed.
+"""
+
+import pathlib
+import re
+from collections.abc import Iterator
+from typing import Any
+
+import pytest
+
+from tulgexar import chart, description, live, plays, story
+from tulgexar.core import Core, booted
+from tulgexar.words import BadWords
+
+MOST_DRAWN = 400  # calls in a picture
+SHOWN = 24  # last lines of a log, in the report
+NO_PICTURE = (plays.Mismatch, ValueError, IndexError, KeyError)
+
+
+class Cores:
+    """The cores of the test that runs."""
+
+    item: pytest.Item
+
+    def __init__(self, config: pytest.Config) -> None:
+        self.config = config
+        self.open: list[Core] = []
+        self.closed: Core | None = None
+        self.has_failed = False
+
+    def begin(self, item: pytest.Item) -> None:
+        """A test begins."""
+        self.item, self.closed, self.has_failed = item, None, False
+
+    def __call__(self, boot: str | description.Description | None = None, **settings: Any) -> Core:
+        """A core that is booted as is said, or else as the test's marker says."""
+        marker = self.item.get_closest_marker("boot") if boot is None and not settings else None
+        if marker:
+            boot, settings = (*marker.args, None)[0], dict(marker.kwargs)
+        watch = bool(settings.pop("watch", False))
+        core = Kept(self, self.described(boot, settings), self.config.getoption("core_program"), watch)
+        self.open.append(core)
+        return core
+
+    def described(self, boot: str | description.Description | None, settings: dict[str, Any]) -> description.Description:
+        """What a core is booted with."""
+        folder = self.item.path.parent
+        try:
+            if boot is None:
+                return booted(folder, **settings)
+            return description.read(folder / boot) if isinstance(boot, (str, pathlib.Path)) else boot
+        except (description.Fault, BadWords, TypeError) as wrong:
+            raise pytest.UsageError(f"{self.item.nodeid}: {wrong}") from wrong
+
+    def forget(self, core: Core) -> None:
+        """A test has closed a core."""
+        self.open.remove(core)
+        self.closed = core
+
+    def end(self) -> None:
+        """The test is over. A program that ends wrongly makes it fail, where it hasn't."""
+        wrong = None
+        for core in list(self.open):
+            try:
+                core.close()
+            except (live.Over, live.NoConversation) as error:
+                wrong = error
+        if wrong and not self.has_failed:
+            raise wrong
+
+    def keep(self) -> Iterator[tuple[str, str]]:
+        """Keeps what was said with the cores of a test that has failed: the sections of its report."""
+        self.has_failed = True
+        cores = [*([self.closed] if self.closed else []), *self.open]
+        folder = pathlib.Path(self.config.rootpath, self.config.getoption("core_kept"), file_name(self.item.nodeid))
+        for number, core in enumerate(cores, 1):
+            name = "core" if number == 1 else f"core-{number}"
+            folder.mkdir(parents=True, exist_ok=True)
+            lines = keep(core, folder / name)
+            yield f"{name} ({folder / name}.log)", "\n".join(lines[-SHOWN:])
+
+
+class Kept(Core):
+    """A core of a test."""
+
+    def __init__(self, cores: Cores, *settings: Any) -> None:
+        self.cores = cores
+        super().__init__(*settings)
+
+    def close(self) -> int:
+        """Ends the core. A program that ends otherwise than with status 0 is wrong."""
+        if self in self.cores.open:
+            self.cores.forget(self)
+        status = super().close()
+        if status:
+            raise live.Over(status)
+        return status
+
+
+def file_name(name: str) -> str:
+    """A test's name as that of a file."""
+    return re.sub(r"[^\w.\[\]-]+", "-", name)[-150:]
+
+
+def keep(core: Core, path: pathlib.Path) -> list[str]:
+    """Keeps what was said with a core in files of a name: the lines of its log."""
+    notes = live.Notes()
+    lines = [part for line, answer in core.turns for part in notes.told(line, answer)]
+    taken = [(line, answer.lines) for line, answer in core.turns if answer.ending == "ok" and live.is_of_trace(line)]
+    log = live.Log(path.with_suffix(".trace"))
+    for line, _ in taken:
+        log.take(line)
+    log.file.close()
+    try:
+        draw(path, "".join(f"{line}\n" for line, _ in taken), "".join(f"{told}\n" for _, answer in taken for told in answer))
+    except NO_PICTURE as cause:
+        lines.append(f"no picture: {cause}")
+    path.with_suffix(".log").write_text("".join(f"{line}\n" for line in lines), encoding="utf-8")
+    return lines
+
+
+def draw(path: pathlib.Path, trace: str, output: str) -> None:
+    """Draws a play, or where it is long, writes it for a viewer."""
+    chart.refuse_others(trace)
+    chart.refuse_none(trace)
+    told = story.Story(story.visits_of(trace, output), story.threads_of(trace))
+    if len(told.visits) <= MOST_DRAWN:
+        path.with_suffix(".svg").write_text(chart.chart(told), encoding="utf-8")
+    else:
+        path.with_suffix(".json").write_text(chart.traced(told), encoding="utf-8")
+
+
+CORES = pytest.StashKey[Cores]()
+
+
+def pytest_addoption(parser: pytest.Parser) -> None:
+    group = parser.getgroup("tulgexar", "cores of a TEE kernel")
+    group.addoption("--core-program", metavar="FILE", help="the program of a conversation, optee_live")
+    group.addoption("--core-kept", metavar="FOLDER", default="failed-cores", help="where what was said with cores of failed tests is kept")
+
+
+def pytest_configure(config: pytest.Config) -> None:
+    config.addinivalue_line("markers", "boot(FILE or settings): what the fixtures core and cores boot a core with")
+    config.stash[CORES] = Cores(config)
+
+
+@pytest.hookimpl(tryfirst=True)
+def pytest_runtest_setup(item: pytest.Item) -> None:
+    item.config.stash[CORES].begin(item)
+
+
+@pytest.hookimpl(hookwrapper=True)
+def pytest_runtest_makereport(item: pytest.Item, call: pytest.CallInfo[None]) -> Iterator[None]:
+    report = (yield).get_result()
+    if report.when == "call" and report.failed:
+        report.sections += item.config.stash[CORES].keep()
+
+
+@pytest.hookimpl(trylast=True)
+def pytest_runtest_teardown(item: pytest.Item) -> None:
+    item.config.stash[CORES].end()
+
+
+@pytest.fixture(scope="session")
+def cores(pytestconfig: pytest.Config) -> Cores:
+    """Makes cores for the test that runs."""
+    return pytestconfig.stash[CORES]
+
+
+@pytest.fixture
+def core(cores: Cores) -> Core:
+    """A core that is booted as the test's marker `boot` says."""
+    return cores()

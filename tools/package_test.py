@@ -1,0 +1,146 @@
+#!/usr/bin/env python3
+"""Installs the package of python/, as its page has it, and tries it there: its commands, a bench, the examples, and cores that are wrong.
+
+All is done in a folder of its own, in an environment that /usr/bin/python3 makes, and without a network. It needs Debian's packages that
+python/README.md names. The untrusted world of the examples has to find each core of examples/wrong_core.py, to shrink what shows it, and what was said has
+to be kept. The program is what `rt run` has built in crates/optee_live, or FILE.
+Status: 0 where all is as wanted, 1 where something isn't, 2 at other words, or where a package is missing.
+usage: package_test.py [live=FILE]
+"""
+
+import os
+import pathlib
+import re
+import shutil
+import subprocess
+import sys
+import tempfile
+
+import packaged  # noqa: F401  (where tulgexar is)
+import shipped
+from check import Comparison
+from tulgexar import program
+from tulgexar.words import BadWords, run
+
+PYTHON = "/usr/bin/python3"
+STANDS = "packaged.stand_for("  # in a tool that is the package's
+PATIENCE = 1200  # seconds
+NEEDED = ("venv", "setuptools", "wheel", "pytest", "xdist", "hypothesis")
+WORLD = "examples/test_untrusted_world.py::test_untrusted_world[8]"
+BENCH = """
+from tulgexar import core
+ADD = "11111111-2222-3333-4444-555555555555"
+with core.Core(core.booted(applications={ADD: "../examples/applications/add.hex"}), watch=True) as talk:
+    print(talk.call(f"open {ADD}")[:3], talk.call("invoke 1 0 value_inout 5 7").values, talk.state().counts["sessions"])
+"""
+TOLD = "('SUCCESS', 'TRUSTED_APP', 1) [(12, 0)] 1\n"
+
+# Of each wrong core what comes and what is wanted, and with how many steps of the world at most that is shown; the least are 3, 4 and 1.
+WRONG = {"resume": ("'OK' == 'ERESUME'", 5), "limit": ("'OK' == 'ETHREAD_LIMIT'", 6), "result": (r"\(\d+, 0\) == \(\d+, 0\)", 3)}
+
+
+class Bench:
+    """A folder with a copy of the package's, beside the examples of the repository, and an environment in which it is installed."""
+
+    def __init__(self, folder, live):
+        self.folder, self.live = folder / "python", live
+        shutil.copytree(shipped.ROOT / "python", self.folder, ignore=shutil.ignore_patterns("__pycache__", "build", "*.egg-info", ".*"))
+        (folder / "examples").symlink_to(shipped.EXAMPLES)
+        self.bin = folder / "bench/bin"
+        self.settings = {name: value for name, value in os.environ.items() if name != "PYTHONPATH"} | {"TULGEXAR_LIVE": str(live)}
+
+    def run(self, *words, text=""):
+        """The status of a command, and what it has told."""
+        given = {"input": text, "text": True, "encoding": "latin-1", "stdout": subprocess.PIPE, "stderr": subprocess.STDOUT}
+        done = subprocess.run([str(word) for word in words], cwd=self.folder, env=self.settings, timeout=PATIENCE, check=False, **given)
+        return done.returncode, done.stdout
+
+    def install(self):
+        """Makes the environment: what was told where that fails, or None."""
+        for words in (
+            [PYTHON, "-m", "venv", "--system-site-packages", self.bin.parent],
+            [self.bin / "pip", "install", "--no-index", "--no-build-isolation", self.folder],
+        ):
+            status, told = self.run(*words)
+            if status:
+                return told
+        shutil.rmtree(self.folder / "tulgexar")  # what runs from here on is what was installed
+        return None
+
+    def pytest(self, *words):
+        return self.run(self.bin / "python", "-m", "pytest", "-p", "no:cacheprovider", *words)
+
+    def wrong_core(self, mistake):
+        """The path of a program whose core makes a mistake."""
+        path = self.folder / f"wrong_{mistake}"
+        path.write_text(f'#!/bin/sh\nexec {PYTHON} -S {self.folder}/examples/wrong_core.py {mistake} "{self.live}"\n')
+        path.chmod(0o700)
+        return path
+
+
+def check_commands(bench, comparison):
+    """Each command tells its usage; a conversation, and a bench."""
+    commands = sorted(path.name for path in bench.bin.glob("tulgexar-*"))
+    tools = sorted(path.stem for path in (shipped.ROOT / "tools").glob("*.py") if STANDS in path.read_text() and path.stem != "formats")
+    comparison.same("commands", commands, [f"tulgexar-{tool.replace('_', '-')}" for tool in tools])
+    for command in commands:
+        status, told = bench.run(bench.bin / command, "--help")
+        comparison.same(f"{command} --help", (status, f"usage: {command} " in told), (0, True))
+    given = bench.run(bench.bin / "tulgexar-live", text="boot 1 1 1\nleave 0\n")
+    comparison.same("tulgexar-live", given, (0, "> boot 1 1 1\n< ok\n> leave 0\n< bad inside\n"))
+    comparison.same("a bench", bench.run(bench.bin / "python", "-c", BENCH), (0, TOLD))
+
+
+def check_examples(bench, comparison):
+    """The examples on all processors, of which none fails, so nothing is kept."""
+    status, told = bench.pytest("-n", "auto", "-q", "examples")
+    comparison.same("the examples", (status, re.findall(r"\d+ \w+(?= in )", told), ""), (0, ["7 passed"], "" if status == 0 else told))
+    comparison.same("what is kept of them", (bench.folder / "failed-cores").exists(), False)
+
+
+def check_wrong_cores(bench, comparison):
+    """The untrusted world over wrong cores."""
+    for mistake, (told_wrong, most) in WRONG.items():
+        kept = bench.folder / f"kept_{mistake}"
+        status, told = bench.pytest("-q", "--core-program", bench.wrong_core(mistake), "--core-kept", kept, WORLD)
+        steps = [step for step in re.findall(r"state\.(\w+)\(", told) if step not in ("begin", "teardown")]
+        comparison.same(f"a wrong core, {mistake}", (status, bool(re.search(told_wrong, told))), (1, True))
+        comparison.same(f"a wrong core, {mistake}: at most {most} of {steps}", 0 < len(steps) <= most, True)
+        files = sorted(path.name for path in kept.glob("*/*"))
+        comparison.same(f"a wrong core, {mistake}: what is kept", files, ["core.log", "core.svg", "core.trace"])
+        calls = sum(line.startswith("> smc ") for path in kept.glob("*/core.log") for line in path.read_text().splitlines())
+        comparison.same(f"a wrong core, {mistake}: calls that were said", calls, len(steps) + 2)
+
+
+def refuse_missing():
+    """Refuses a system that lacks a package."""
+    found = "import importlib.util, sys; print(*[name for name in sys.argv[1:] if importlib.util.find_spec(name) is None])"
+    if not pathlib.Path(PYTHON).exists():
+        raise BadWords(f"there is no {PYTHON}")
+    missing = subprocess.run([PYTHON, "-c", found, *NEEDED, "ensurepip"], capture_output=True, text=True, check=True).stdout.split()
+    if missing:
+        raise BadWords(f"{PYTHON} has no {', '.join(missing)}: python/README.md names Debian's packages")
+
+
+def main(words):
+    words = list(words)
+    file = program.taken_from(words, "live")
+    if words:
+        raise BadWords()
+    live = program.found("optee_live", file)
+    refuse_missing()
+    comparison = Comparison()
+    with tempfile.TemporaryDirectory() as folder:
+        bench = Bench(pathlib.Path(folder), live)
+        told = bench.install()
+        comparison.same("pip install", told, None)
+        if told is None:
+            for check in (check_commands, check_examples, check_wrong_cores):
+                check(bench, comparison)
+    print(f"{comparison.compared} compared, {comparison.differing} differ")
+    return 1 if comparison.differing else 0
+
+
+if __name__ == "__main__":
+    sys.dont_write_bytecode = True
+    run(main, __doc__)
