@@ -61,7 +61,7 @@ def check_panics(report, folder, file):
     for kind, (code, part) in PANICS.items():
         script = folder / f"panic{kind}.client"
         script.write_text("\n".join([*head, f"open s {uuid}", f"invoke s a vio:{kind:x}:0", "#= invoke s SUCCESS TRUSTED_APP", ""]))
-        told = bench.played(script, file)[0][-1]
+        told = bench.panic_of(script, file)
         line = re.search(r"api_ta\.c:([0-9]+)\)$", told)
         report.check(f"panic {code} at " in told, f"panic {kind} is {code}", told)
         near = "\n".join(source[max(0, int(line[1]) - 2) : int(line[1]) + 1]) if line else ""
@@ -86,7 +86,7 @@ def check_warnings(report, folder, file):
     script = folder / "deep.client"
     lines = ["image deep deep.hex", "boot 1 2 64", f"ta {uuid} $deep", f"open s {uuid}", "invoke s 0 vio:0:0"]
     script.write_text("\n".join([*lines, "#= invoke s SUCCESS TRUSTED_APP", ""]))
-    told = bench.played(script, file)[0][-1]
+    told = bench.panic_of(script, file)
     report.check("panic 00000004 at " in told and "deep.c:" in told, "calls that are too deep are panic 4", told)
 
 

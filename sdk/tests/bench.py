@@ -41,6 +41,12 @@ def played(script, file):
     return bench_test.lines_on(case), case.compared > 0 and not case.failures
 
 
+def panic_of(script, file):
+    """What bench_test.py tells of the panic that a script isn't wanted to come to, or all that it tells."""
+    lines, _ = played(script, file)
+    return next((line for line in lines if "panic " in line), "\n".join(lines))
+
+
 def assembled(text, file):
     """The digits that the word `asm` makes of a text."""
     return program.Program(file).run(["asm"], text).output
