@@ -2,12 +2,15 @@
 //! calls, until the other has come so far. No order in which one processor plays after the other lets both go on, nor does
 //! one in which a call is done from its entry to its exit while the other processor stands still.
 //!
-//! Prints the status, and where each processor came to where the other waited for it the places of all answers, and of each
-//! processor how often the pace was called for its first call, its second, its third and any other number.
+//! Each processor has to come to where the other waits for it, and the places of their answers have to show that it waits inside its
+//! calls: behind their entries, and before their exits. Then prints the status, the places of all answers, and of each processor how
+//! often the pace was called for its first call, its second, its third and any other number.
 #![tactic(auto)]
 
+mod calls;
 mod meeting;
 
+use crate::calls::{Call, calls_of, places_of, were_held_inside};
 use crate::meeting::Meeting;
 use anyhow::{Context, Result, bail};
 use native_tas::Natives;
@@ -49,26 +52,10 @@ fn play_script<R: Threads + Wait + Sync>(
     ))
 }
 
-/// The places that the lines of a text name, in rising order.
-fn places_in(alloc: Global, text: &str) -> Result<Vec<u32>> {
-    let mut places = Vec::new(alloc);
-    for line in text.lines() {
-        let Some((_, named)) = line.split_once(" at ") else {
-            continue;
-        };
-        for place in named.split_whitespace() {
-            places.push(place.parse::<u32>().ok().context("reading a place")?)?;
-        }
-    }
-    places.sort()?;
-    Ok(places)
-}
-
-/// Prints the places that the lines of a text name.
-fn print_places(rt: &impl Print, alloc: Global, text: &[u8]) -> Result<()> {
-    let text = String::from_utf8_lossy(alloc, text)?;
+/// Prints the places of all these calls.
+fn print_places(rt: &impl Print, alloc: Global, zero: &[Call], one: &[Call]) -> Result<()> {
     print!(rt; "places")?;
-    for place in places_in(alloc, text.as_str())?.as_slice() {
+    for place in places_of(alloc, zero, one)?.as_slice() {
         print!(rt; " {place}")?;
     }
     println!(rt; "").context("printing places")
@@ -93,7 +80,13 @@ fn main(rt: HostRuntime) -> Result<()> {
     if !meeting.has_met() {
         bail!("a processor did not come to where the other waits for it, or waited in vain");
     }
-    print_places(&rt, alloc, sink.bytes())?;
+    let text = String::from_utf8_lossy(alloc, sink.bytes())?;
+    let zero = calls_of(alloc, text.as_str(), "ret 0 ")?;
+    let one = calls_of(alloc, text.as_str(), "ret 1 ")?;
+    if !were_held_inside(zero.as_slice(), one.as_slice()) {
+        bail!("a processor waited before it came in, or once it had gone out");
+    }
+    print_places(&rt, alloc, zero.as_slice(), one.as_slice())?;
     print_counts(&rt, &meeting, 0)?;
     print_counts(&rt, &meeting, 1)
 }
