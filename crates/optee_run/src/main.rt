@@ -1,42 +1,40 @@
 //! Reads a trace from standard input, plays it, prints its lines, and ends with the number of the status.
 #![tactic(auto)]
 
-use native_tas::program_natives;
+use command_line::{CommandLine, exit_status, read_command_line};
+use native_tas::{Natives, program_natives};
 use ports::{NoPace, StdSink, StdSource};
 use std::alloc::AllocError;
-use std::io::ErrorKind;
+use std::io;
 use std::process::ExitCode;
 use std::rt::Env;
-use std::{env, io};
-use trace_runner::{Status, run};
+use trace_runner::run;
 
-/// The words after the program's name. Where one isn't UTF-8 there are none, since no such word is of use.
-fn words(rt: &(impl Env + AllocGlobal)) -> Result<Vec<String>, AllocError> {
-    match env::args(rt) {
-        Ok(words) => Ok(words.skip(1).collect(rt.alloc())?),
-        Err(error) if error.kind() == ErrorKind::OutOfMemory => Err(AllocError),
-        Err(_) => Ok(Vec::new(rt.alloc())),
-    }
+/// The program's command line, and what it has built in.
+fn beginning(rt: &(impl Env + AllocGlobal)) -> Result<(CommandLine, Natives), AllocError> {
+    let line = read_command_line(rt)?;
+    let natives = program_natives!(rt.alloc())?;
+    Ok((line, natives))
 }
 
 fn main(rt: HostRuntime) -> ExitCode {
-    let Ok(words) = words(&rt) else {
-        return ExitCode::from(Status::Memory.number());
+    let status = match beginning(&rt) {
+        Ok((line, natives)) => {
+            let mut input = StdSource::new(rt.reader());
+            let mut out = StdSink::new(io::writer(&rt));
+            let words = line.words();
+            let status = run(
+                &rt,
+                rt.alloc(),
+                words,
+                &mut input,
+                &mut out,
+                &natives,
+                &NoPace,
+            );
+            Ok(status.number())
+        }
+        Err(error) => Err(error),
     };
-    let Ok(natives) = program_natives!(rt.alloc()) else {
-        return ExitCode::from(Status::Memory.number());
-    };
-    let mut input = StdSource::new(rt.reader());
-    let mut out = StdSink::new(io::writer(&rt));
-    let words = words.as_slice();
-    let status = run(
-        &rt,
-        rt.alloc(),
-        words,
-        &mut input,
-        &mut out,
-        &natives,
-        &NoPace,
-    );
-    ExitCode::from(status.number())
+    ExitCode::from(exit_status(status))
 }

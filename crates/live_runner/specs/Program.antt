@@ -1,0 +1,32 @@
+-- What a program of a conversation comes to.
+use Rattle.std.specs.Prelude.{◌≡◌, ◌≢◌, ◌⊎◌, ℕ, List, [], ◌∷◌, ◌++◌, codes, take, Option}
+use Rattle.line_port.specs.History.{Event}
+use Rattle.line_port.specs.declared.finish.Finish.{Finish}
+use Rattle.live_play.specs.Answer.{Platform}
+use Rattle.live_play.specs.Conversation.{status}
+use Rattle.live_runner.specs.Talks.{HearsNoQuestion, Shows, Talks}
+use Rattle.live_runner.specs.Turns.{IsEndOf}
+use Rattle.ports.specs.Port.{Appends, Rose}
+
+-- ---- with words
+
+abbrev pub usage_line : List ℕ
+usage_line = codes "usage: optee_live" ++ 10 ∷ []
+
+-- the usage line was written; or the sink counted a fault, after a part of it; or there was no memory, and nothing was
+pub record IsRefused (result : ℕ) (old new : Option (List ℕ)) (faults_old faults_new : ℕ) : Type 0 where
+  pub statuses : (result ≡ 2) ⊎ ((result ≡ 5) ⊎ (result ≡ 6))
+  pub usage : result ≡ 2 → Appends old new usage_line
+  pub write_fault : result ≡ 5 → Rose faults_old faults_new × ((n : ℕ) × Appends old new (take n usage_line))
+  pub memory : result ≡ 6 → new ≡ old
+  pub stays : result ≢ 5 → faults_new ≡ faults_old
+
+-- ---- without words
+
+-- a conversation was held, and the status is that of its end
+pub record HoldsTo (on : Platform) (old new : Option (List Event)) (ended : Option Finish) (result : ℕ) : Type 0 where
+  pub finish : Finish
+  pub status_is : result ≡ status finish
+  pub shows : Shows on old new finish
+  pub talks : HearsNoQuestion old new → Talks on old new finish
+  pub ends : IsEndOf finish ended
