@@ -52,7 +52,10 @@ class Reader:
             part = self.wanted[len(self.wanted) - self.behind :]
             self.moves += self.moves[-1:] * int(rest)
             self.wanted += part * int(rest)
-        elif word in ("fails", "wander"):
+        elif word == "times":
+            self.wanted += self.wanted[len(self.wanted) - self.behind :] * (int(rest) - 1)
+            self.behind *= int(rest)
+        elif word in ("words", "no_text", "put_fails", "fails", "wander"):
             self.is_plain = False
         elif word in MOVES:
             self.push(MOVES[word](rest))
@@ -131,7 +134,7 @@ MOVES = {
 
 
 def cases():
-    """The cases in which no call of the port fails, and whose lines are given."""
+    """The cases without words in which no call of the port fails, and whose lines are given."""
     reader = None
     for line in shipped.read(shipped.CRATES / "live_cases/stdin").splitlines():
         word, _, rest = line.partition(" ")

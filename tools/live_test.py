@@ -1,11 +1,11 @@
 #!/usr/bin/env python3
 """Tries the program of a conversation over pipes and other streams, as its users have them. No part of the gate.
 
-The conversations are those that `live_cases` holds. They are given whole, and line by line; a line in pieces, several at once, and many
-more than are read; streams that are closed, full or slow, or no streams of that kind; a normal world that does what it likes; with history
-and without it; a life of a million turns, or N, in the same memory (life.py has what is wanted of it); and, where there is a C compiler,
-each request for memory is refused in turn. The program is what `rt run` has built in crates/optee_live, or FILE. It prints what the life
-took, each thing that isn't as docs/conversation.md has it, and at the end how many were compared.
+The conversations are those that `live_cases` holds, of at most 5,000 lines. They are given whole, and line by line; a line in pieces,
+several at once, and many more than are read; streams that are closed, full or slow, or no streams of that kind; a normal world that does
+what it likes; with history and without it; a life of a million turns, or N, in the same memory (life.py has what is wanted of it); and,
+where there is a C compiler, each request for memory is refused in turn. The program is what `rt run` has built in crates/optee_live, or
+FILE. It prints what the life took, each thing that isn't as docs/conversation.md has it, and at the end how many were compared.
 Status: 0 where all is as wanted, 1 where something isn't, 2 at other words.
 usage: live_test.py [program=FILE] [turns=N]
 """
@@ -39,6 +39,7 @@ USAGE = b"usage: optee_live\n"
 BOOT, TAKEN = b"boot 1 1 1\n", b"ok\n"
 LONG = 4000  # bytes that are shown at once
 MOST_ANSWERED = 3 * 4096  # bytes of an answer
+MOST_TURNS = 5000  # of a conversation
 REFUSED = [
     "page",
     "session-by-its-number",
@@ -64,7 +65,7 @@ class Tests:
 
     def __init__(self, path, comparison, turns=TURNS):
         self.path, self.same, self.turns = path, comparison.same, turns
-        self.cases = {case.name: case for case in conversations.cases()}
+        self.cases = {case.name: case for case in conversations.cases() if len(case.turns) <= MOST_TURNS}
 
     def ends(self, what, wanted, **streams):
         """Runs the program on streams to its end, and compares its status with that which is wanted, and what it said."""

@@ -4,15 +4,18 @@ use crate::notifying::is_as_notified;
 use crate::script::Script;
 use crate::side::Side;
 use crate::wanderer::Wanderer;
+use command_line::CommandLine;
 use line_port::{Entry, MemPort};
-use live_runner::{Finish, live};
+use live_runner::run;
 use native_tas::Natives;
+use ports::MemSink;
 use std::alloc::{AllocError, Global};
 
 /// A side of a conversation, and what is wanted of what it is answered.
 #[derive(Drop)]
 pub struct Case {
     name: String,
+    line: CommandLine,
     script: Script,
     /// A side that comes in place of the script.
     wanderer: Option<Wanderer>,
@@ -22,6 +25,8 @@ pub struct Case {
     turn_at: usize,
     /// The calls of the port that fail.
     fails: Vec<u64>,
+    /// Those of the sink of a usage line.
+    failing_puts: Vec<u32>,
     is_notified: bool,
 }
 
@@ -51,26 +56,40 @@ fn differing_line(one: &[u8], other: &[u8]) -> u64 {
     number
 }
 
-/// The word of an end.
-fn word_of(finish: Finish) -> &'static str {
-    match finish {
-        Finish::Over => "over",
-        Finish::ReadFault => "read_fault",
-        Finish::WriteFault => "write_fault",
-        Finish::Memory => "memory",
+/// The word of a status.
+fn word_of(status: u8) -> &'static str {
+    match status {
+        0 => "over",
+        2 => "usage",
+        4 => "read_fault",
+        5 => "write_fault",
+        6 => "memory",
+        _ => "otherwise",
     }
 }
 
+/// A program's name, and behind it the words of a text.
+fn command_line(alloc: Global, words: &str) -> Result<CommandLine, AllocError> {
+    let mut arguments = Vec::new(alloc);
+    arguments.push(String::from_str(alloc, "optee_live")?)?;
+    for word in words.split_whitespace() {
+        arguments.push(String::from_str(alloc, word)?)?;
+    }
+    Ok(CommandLine::Text(arguments))
+}
+
 impl Case {
-    /// A case of this name, with a side that says nothing.
+    /// A case of this name without words, with a side that says nothing.
     pub fn new(alloc: Global, name: &str) -> Result<Case, AllocError> {
         Ok(Case {
             name: String::from_str(alloc, name)?,
+            line: command_line(alloc, "")?,
             script: Script::new(alloc),
             wanderer: None,
             wanted: Vec::new(alloc),
             turn_at: 0,
             fails: Vec::new(alloc),
+            failing_puts: Vec::new(alloc),
             is_notified: false,
         })
     }
@@ -100,6 +119,23 @@ impl Case {
         Ok(())
     }
 
+    /// The call of the sink fails.
+    pub fn fail_put(&mut self) -> Result<(), AllocError> {
+        self.failing_puts.push(0)?;
+        Ok(())
+    }
+
+    /// The command line has these words.
+    pub fn say_words(&mut self, alloc: Global, words: &str) -> Result<(), AllocError> {
+        self.line = command_line(alloc, words)?;
+        Ok(())
+    }
+
+    /// The command line isn't UTF-8.
+    pub fn say_no_text(&mut self) {
+        self.line = CommandLine::NotText;
+    }
+
     /// This line is to be said next.
     pub fn want(&mut self, line: &str) -> Result<(), AllocError> {
         self.wanted.extend_from_slice(line.as_bytes())?;
@@ -113,6 +149,16 @@ impl Case {
         let at = self.turn_at.min(self.wanted.len());
         let behind = Vec::from_slice(alloc, &self.wanted.as_slice()[at..])?;
         for _ in 0..more {
+            self.wanted.extend_from_slice(behind.as_slice())?;
+        }
+        Ok(())
+    }
+
+    /// What is wanted behind the last line of the side is to be said so many times in all.
+    pub fn times(&mut self, alloc: Global, count: u32) -> Result<(), AllocError> {
+        let at = self.turn_at.min(self.wanted.len());
+        let behind = Vec::from_slice(alloc, &self.wanted.as_slice()[at..])?;
+        for _ in 1..count {
             self.wanted.extend_from_slice(behind.as_slice())?;
         }
         Ok(())
@@ -133,11 +179,13 @@ impl Case {
     ) -> Result<String, AllocError> {
         let Case {
             name,
+            line,
             script,
             wanderer,
             wanted,
             turn_at: _turn_at,
             fails,
+            failing_puts,
             is_notified,
         } = self;
         let is_told = wanderer.is_none();
@@ -146,8 +194,10 @@ impl Case {
             None => Side::Scripted(script),
         };
         let mut port = MemPort::new(alloc, side, fails);
-        let end = word_of(live(alloc, natives, &mut port));
-        let said = said_in(alloc, port.log())?;
+        let mut sink = MemSink::new(alloc, failing_puts);
+        let end = word_of(run(alloc, &line, natives, &mut port, &mut sink));
+        let mut said = said_in(alloc, port.log())?;
+        said.extend_from_slice(sink.bytes())?;
         if end != wanted_end {
             return format!(in alloc; "{name} ends otherwise: {end}");
         }

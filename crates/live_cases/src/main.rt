@@ -2,7 +2,8 @@
 //! it isn't as the case says.
 //!
 //! A case is lines: `case NAME`, what a side says, what is to be answered, and last `end WORD`, at which the conversation is held:
-//! it has to end so, `over`, `read_fault` or `write_fault`. What a side says is given by lines
+//! it has to end so, `over`, `usage`, `read_fault` or `write_fault`. `words W..` are the words of the command line, `no_text` says that it
+//! isn't UTF-8, and `put_fails` that the usage line can't be written. What a side says is given by lines
 //!
 //! - `> LINE`, `hex HEX` (the line has these bytes), `comment N` (it has N bytes `#`) and `fill N HEX LINE` (the text, and behind it
 //!   these digits N times);
@@ -11,8 +12,8 @@
 //! - `wander CPUS TURNS SEED`: a side that chooses so many lines by what it is answered, pseudo-randomly, in place of all these.
 //!
 //! `{N}` in a line stands for word N, from 0, of the first line of the last answer. Each line `< LINE` is wanted as the next one of
-//! all that is said; `again N` has the last line of the side, with what is wanted behind it, come N times more. `fails N` makes
-//! call N of the port fail, counted from 0. `notify` plays the lines that were taken, those before an `ok`, as a trace with signals
+//! all that is said; `times N` has what is wanted so far behind the last line of the side stand there N times in all, and `again N` has
+//! that line, with what is wanted behind it, come N times more. `fails N` makes call N of the port fail, counted from 0. `notify` plays the lines that were taken, those before an `ok`, as a trace with signals
 //! besides: what that prints is to be what was said for them. A line that begins with `#` says why something is wanted.
 #![tactic(auto)]
 
@@ -98,11 +99,23 @@ fn takes_side(alloc: Global, case: &mut Case, word: &str, rest: &str) -> Result<
     Ok(true)
 }
 
+/// Takes a line that says something of the command line, and says whether it does.
+fn takes_words(alloc: Global, case: &mut Case, word: &str, rest: &str) -> Result<bool> {
+    match word {
+        "words" => case.say_words(alloc, rest)?,
+        "no_text" => case.say_no_text(),
+        "put_fails" => case.fail_put()?,
+        _ => return Ok(false),
+    }
+    Ok(true)
+}
+
 /// Takes a line that says what is wanted, and says whether it does.
 fn takes_wanted(alloc: Global, case: &mut Case, word: &str, rest: &str) -> Result<bool> {
     match word {
         "<" => case.want(rest)?,
         "again" => case.again(alloc, number(rest)?)?,
+        "times" => case.times(alloc, number(rest)?)?,
         "notify" => case.notify(),
         _ => return Ok(false),
     }
@@ -129,7 +142,10 @@ fn take_line<R: Print>(
             println!(rt; "{told}")?;
         }
         _ => {
-            if !takes_side(alloc, case, word, rest)? && !takes_wanted(alloc, case, word, rest)? {
+            if !takes_words(alloc, case, word, rest)?
+                && !takes_side(alloc, case, word, rest)?
+                && !takes_wanted(alloc, case, word, rest)?
+            {
                 bail!("no line of a case: {line}");
             }
         }
