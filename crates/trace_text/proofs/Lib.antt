@@ -1,5 +1,6 @@
 pub mod DigitTable
 pub mod Digits
+pub mod HexDigits
 pub mod Uuids
 pub mod Images
 pub mod Inside

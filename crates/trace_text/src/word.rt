@@ -1,15 +1,15 @@
 //! Words of a line: the numbers that they write.
 
-ghost use Rattle.std.specs.Prelude.{◌≡◌, ◌≤◌, [], ◌∷◌, min};
+ghost use Rattle.std.specs.Prelude.{◌≡◌, ◌≤◌, ◌*◌, [], ◌∷◌, length, min};
+ghost use Rattle.hex.specs.Hex.{decode_pairs};
 ghost use Rattle.std.specs.Option.{option_map};
-ghost use Rattle.trace_text.specs.Reading.{has_leading_zero, decimal_at, hexadecimal_at};
+ghost use Rattle.trace_text.specs.Reading.{Decodes, has_leading_zero, decimal_at, hexadecimal_at};
 ghost use Rattle.trace_text.specs.Forms.{is_decimal, decimal, is_hexadecimal, hexadecimal, is_register, register, is_uuid, uuid, is_hex, bytes};
 ghost use Rattle.trace_text.specs.Judging.{IsSaid, Judged, Reads};
 
-use crate::digit::digit_of;
+use crate::digit::{byte_of, digit_of};
 use crate::fault::{BadKind, LineFault};
 use crate::item::Reg;
-use hex::FromHexError;
 use std::alloc::Global;
 use uuid::Uuid;
 
@@ -112,14 +112,30 @@ pub fn uuid(word: &[u8]) -> Option<Uuid>
     Uuid::try_parse_ascii(word).ok()
 }
 
+/// Writes the bytes of these hexadecimal digits, two for each. Answers whether all are digits.
+fn decode(word: &[u8], bytes: &mut [u8]) -> bool
+    requires { length word.now ≡ 2 * length bytes.old }
+    ensures { Decodes result (decode_pairs 0 word.now) bytes.new }
+{
+    for i in 0..bytes.len() {
+        let Some(byte) = byte_of(word[2 * i], word[2 * i + 1]) else {
+            return false;
+        };
+        bytes[i] = byte;
+    }
+    true
+}
+
 /// The bytes that hexadecimal digits write.
-#[tactic(auto, unfolding(crate::specs::Forms::is_hex, crate::specs::Forms::bytes))]
 pub fn bytes(alloc: Global, word: &[u8]) -> Result<Vec<u8>, LineFault>
     ensures { Judged (λ v. v.items) result ((BadKind.Hex, is_hex word.now) ∷ []) (bytes word.now) }
 {
-    match hex::decode(alloc, word) {
-        Ok(bytes) => Ok(bytes),
-        Err(FromHexError::OutOfMemory) => Err(LineFault::NoRoom),
-        Err(_) => Err(LineFault::Broken(BadKind::Hex)),
+    if word.len() % 2 != 0 {
+        return Err(LineFault::Broken(BadKind::Hex));
     }
+    let mut bytes = vec![in alloc; 0u8; word.len() / 2]?;
+    if !decode(word, bytes.as_mut_slice()) {
+        return Err(LineFault::Broken(BadKind::Hex));
+    }
+    Ok(bytes)
 }

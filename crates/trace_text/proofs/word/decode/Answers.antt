@@ -1,0 +1,13 @@
+use Rattle.std.proofs.Common.{◌*◌, arith}
+use Rattle.hex.proofs.Pairs.{decode_done, decode_step}
+use Rattle.trace_text.proofs.HexDigits.{pair_refused}
+use Rattle.trace_text.proofs.word.decode.Goals as goal
+
+pub loop-i-preserved : goal.loop-i-preserved
+loop-i-preserved c = decode_step _ _ c.loop-i.i _ (omega arith) (omega arith) (c.in-Some.ensures (2 * c.loop-i.i)) c.loop-i.invariant
+
+pub returns-in_default : goal.returns-in_default
+returns-in_default c = pair_refused _ _ c.loop-i.i (omega arith) (c.in_default.ensures (2 * c.loop-i.i)) c.loop-i.invariant
+
+pub returns : goal.returns
+returns c = decode_done _ c.loop-i.bytes c.loop-i.i (omega arith) (omega arith) c.loop-i.invariant
