@@ -210,7 +210,7 @@ impl Scene {
     /// The item of a line `smc` or `write` that is read in one pass. Without one, the line is read word by word, which names its
     /// fault.
     #[inline(always)]
-    pub fn plain_item(&self, alloc: Global, line: &[u8]) -> Option<Item>
+    fn plain_item(&self, alloc: Global, line: &[u8]) -> Option<Item>
         ensures { IfSome result (SaysItem self.now line.now) }
     {
         let cpus = self.cpus()?;
