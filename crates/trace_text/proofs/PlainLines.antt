@@ -28,7 +28,7 @@ use Rattle.trace_text.specs.declared.item.Reg.{Reg}
 use Rattle.trace_text.specs.declared.item.Reg.TheVariants.{Last, Num}
 use Rattle.trace_text.specs.declared.statement.Statement.TheVariants as says
 use Rattle.trace_text.specs.Forms.{bytes, decimal, hexadecimal, is_decimal, is_hex, is_hexadecimal, is_last, is_register, register}
-use Rattle.trace_text.specs.Judging.{IsSaid, Judged}
+use Rattle.trace_text.specs.Judging.{Judged}
 use Rattle.trace_text.specs.Limits.{SceneState, first_broken, is_within, lies_in_ram}
 use Rattle.trace_text.specs.Plain.{AreRegisters, BeginsWithDecimal, BeginsWithNumber, IsPlain, IsPlainWrite, SaysItem, Writes}
 use Rattle.trace_text.specs.Reading.{are_digits, has_leading_zero, hexadecimal_at}
@@ -280,11 +280,6 @@ plain_says scene line cpus cpu steps regs booted count p there granted outside =
 
 -- ---- writes
 
--- what was read of a word that has its form
-pub said_ok : {A : Type 0} (result : Result A LineFault) (kind : BadKind) (form : Bool) (value read : A) → Some read ≡ result_ok result → IsSaid result kind form value → (form ≡ true) × (read ≡ value)
-said_ok (Ok x) kind form value read is said = let same : read ≡ x = cc in (said.0, same ∙ said.1)
-said_ok (Err fault) kind form value read is said = absurd cc
-
 pub judged_ok : {X Y : Type 0} (view : X → Y) (result : Result X LineFault) (rules : List (BadKind × Bool)) (value : Y) (read : X) → Some read ≡ result_ok result → Judged view result rules value → (first_broken rules ≡ None) × (view read ≡ value)
 judged_ok view (Ok x) rules value read is judged = let same : read ≡ x = cc in (judged.0, ap view same ∙ judged.1)
 judged_ok view (Err fault) rules value read is judged = absurd cc
@@ -318,29 +313,32 @@ hex_digits : (word : List ℕ) → is_hex word ≡ true → list_all is_hex_digi
 unfolding is_hex
 hex_digits word form = list_all-from_AllPass is_hex_digit word (decode_of-ok word _ (ok_is (decode_of word) form)).1
 
-address_digits : (word : List ℕ) → is_hexadecimal 16 word ≡ true → are_digits 16 word ≡ true
-unfolding is_hexadecimal
-address_digits word form = (and_parts (are_digits 16 word) (leb (length word) 16) form).0
+-- a word of up to eight hexadecimal digits is an address
+short_address : (word : List ℕ) (number : ℕ) → are_digits 16 word ≡ true → length word ≤ 8 → number ≡ digits_value 16 word → (is_hexadecimal 16 word ≡ true) × (number ≡ hexadecimal word)
+unfolding is_hexadecimal hexadecimal
+short_address word number form short is =
+    (and_from (are_digits 16 word) (leb (length word) 16) form (le-leb (length word) 16 (omega arith)), is)
 
-write_line_front : (rest behind_cpu hex addr_word : List ℕ) (cpu addr : ℕ) (written : List ℕ) → BeginsWithDecimal rest cpu behind_cpu → IsCutAt 32 behind_cpu addr_word hex → is_hexadecimal 16 addr_word ≡ true → addr ≡ hexadecimal addr_word
-    → 0 < length hex → is_hex hex ≡ true → written ≡ bytes hex → IsPlainWrite (codes "write " ++ rest) cpu addr written
+write_line_front : (rest behind_cpu hex : List ℕ) (cpu addr : ℕ) (written : List ℕ) → BeginsWithDecimal rest cpu behind_cpu → BeginsWithNumber 16 behind_cpu addr hex → 0 < length hex → is_hex hex ≡ true → written ≡ bytes hex
+    → IsPlainWrite (codes "write " ++ rest) cpu addr written
 unfolding counts is_skipped
-write_line_front rest behind_cpu hex addr_word cpu addr written c cut form addr_is some hex_form written_is =
+write_line_front rest behind_cpu hex cpu addr written c a some hex_form written_is =
     let cut_cpu = cut_off 10 rest c.word behind_cpu (omega arith) c.cut (decimal_digits c.word c.form) in
-    let cut_addr = cut_off 16 behind_cpu addr_word hex (omega arith) cut (address_digits addr_word form) in
+    let cut_addr = cut_off 16 behind_cpu a.word hex (omega arith) a.cut a.digits in
+    let address = short_address a.word addr a.digits a.short a.value in
     let digits = hex_digits hex hex_form in
     let last : words_of hex ≡ hex ∷ [] = slice_split_none (λ b. eqb b 32) hex (hex_digits_lack hex digits) in
     let line : List ℕ = codes "write " ++ rest in
-    let words : words_of line ≡ codes "write" ∷ c.word ∷ addr_word ∷ hex ∷ [] =
-    ap (λ (ws : List (List ℕ)). codes "write" ∷ ws) (cut_cpu.words ∙ ap (λ (ws : List (List ℕ)). c.word ∷ ws) (cut_addr.words ∙ ap (λ (ws : List (List ℕ)). addr_word ∷ ws) last))
+    let words : words_of line ≡ codes "write" ∷ c.word ∷ a.word ∷ hex ∷ [] =
+    ap (λ (ws : List (List ℕ)). codes "write" ∷ ws) (cut_cpu.words ∙ ap (λ (ws : List (List ℕ)). c.word ∷ ws) (cut_addr.words ∙ ap (λ (ws : List (List ℕ)). a.word ∷ ws) last))
     in
     let filled : list_all (λ w. ltb 0 (length w)) (words_of line) ≡ true =
     ap (list_all (λ w. ltb 0 (length w))) words
-    ∙ and_from (ltb 0 (length c.word)) _ cut_cpu.filled (and_from (ltb 0 (length addr_word)) _ cut_addr.filled (and_from (ltb 0 (length hex)) true (lt-ltb 0 (length hex) some) refl))
+    ∙ and_from (ltb 0 (length c.word)) _ cut_cpu.filled (and_from (ltb 0 (length a.word)) _ cut_addr.filled (and_from (ltb 0 (length hex)) true (lt-ltb 0 (length hex) some) refl))
     in
     record {
       cpu_word = c.word;
-      addr_word = addr_word;
+      addr_word = a.word;
       hex_word = hex;
       words = words;
       text = cut_cpu.text ∙ cut_addr.text ∙ hex_digits_are_text hex digits;
@@ -348,16 +346,16 @@ write_line_front rest behind_cpu hex addr_word cpu addr written c cut form addr_
       counted = and_from _ _ (eq-eqb _ _ (omega (arith, ap length words))) filled;
       cpu_form = c.form;
       cpu_is = c.value;
-      addr_form = form;
-      addr_is = addr_is;
+      addr_form = address.0;
+      addr_is = address.1;
       hex_form = hex_form;
       written_is = written_is;
     }
 
-pub write_line : (line rest behind_cpu hex addr_word : List ℕ) (cpu addr : ℕ) (written : List ℕ) → line ≡ codes "write " ++ rest → BeginsWithDecimal rest cpu behind_cpu → IsCutAt 32 behind_cpu addr_word hex
-    → (is_hexadecimal 16 addr_word ≡ true) × (addr ≡ hexadecimal addr_word) → 0 < length hex → (first_broken ((bad.Hex, is_hex hex) ∷ []) ≡ None) × (written ≡ bytes hex) → IsPlainWrite line cpu addr written
-write_line line rest behind_cpu hex addr_word cpu addr written is c cut address some decoded =
-    subst (λ (l : List ℕ). IsPlainWrite l cpu addr written) (sym is) (write_line_front rest behind_cpu hex addr_word cpu addr written c cut address.0 address.1 some (one_kept bad.Hex (is_hex hex) None decoded.0).0 decoded.1)
+pub write_line : (line rest behind_cpu hex : List ℕ) (cpu addr : ℕ) (written : List ℕ) → line ≡ codes "write " ++ rest → BeginsWithDecimal rest cpu behind_cpu → BeginsWithNumber 16 behind_cpu addr hex
+    → 0 < length hex → (first_broken ((bad.Hex, is_hex hex) ∷ []) ≡ None) × (written ≡ bytes hex) → IsPlainWrite line cpu addr written
+write_line line rest behind_cpu hex cpu addr written is c a some decoded =
+    subst (λ (l : List ℕ). IsPlainWrite l cpu addr written) (sym is) (write_line_front rest behind_cpu hex cpu addr written c a some (one_kept bad.Hex (is_hex hex) None decoded.0).0 decoded.1)
 
 write_kept : (scene : SceneState) (natives : List (List ℕ)) (is_open : Bool) (line : List ℕ) (cpu addr : ℕ) (written : List ℕ) → IsPlainWrite line cpu addr written → scene.is_booted ≡ true → ltb cpu scene.cpus ≡ true → lies_in_ram addr (length written) ≡ true
     → first_broken (rules_at natives (record scene { is_open = is_open }) true line) ≡ None

@@ -1,7 +1,6 @@
 //! Lines `smc` and `write` that have no fault, read in one pass.
 
 ghost use Rattle.std.specs.Prelude.{◌≡◌, ◌≤◌, nat_lt, true, IfSome};
-ghost use Rattle.text_lines.specs.Lines.{IsCutAt};
 ghost use Rattle.trace_text.specs.Limits.{is_within};
 ghost use Rattle.trace_text.specs.Plain.{AreRegisters, BeginsWithDecimal, BeginsWithNumber, IsPlain, Writes};
 
@@ -9,9 +8,8 @@ use crate::digit::digit_of;
 use crate::item::{Item, Reg};
 use crate::limits::{MAX_STEPS, is_there, is_within, lies_in_ram};
 use crate::said::Call;
-use crate::word::{address, bytes, short_hexadecimal};
+use crate::word::{bytes, short_hexadecimal};
 use base::Sequence;
-use memchr::memchr;
 use std::alloc::Global;
 
 /// The most digits of a number in such a line: in hexadecimal they fill 32 bits.
@@ -90,25 +88,18 @@ pub fn plain_call(cpus: u8, line: &[u8]) -> Option<Call>
     })
 }
 
-/// The first word of a line that has others, and what stands behind the space after it.
-fn front_word(line: &[u8]) -> Option<(&[u8], &[u8])>
-    ensures { IfSome result (λ x. IsCutAt 32 line.now x.0.now x.1.now) }
-{
-    let end = memchr(b' ', line)?;
-    Some((&line[..end], &line[end + 1..]))
-}
-
-/// What a line `write` says that has no fault, on a core of so many processors.
+/// What a line `write` says that has no fault, on a core of so many processors. An address in RAM has up to eight digits, but for
+/// zeros before them.
 pub fn plain_write(alloc: Global, cpus: u8, line: &[u8]) -> Option<Item>
     ensures { IfSome result (Writes cpus line.now) }
 {
     let rest = line.strip_prefix(b"write ")?;
     let (cpu, rest) = front_decimal(rest)?;
-    let (word, rest) = front_word(rest)?;
-    let addr = address(word).ok()?;
+    let (addr, rest) = front_number(rest, 16)?;
     if rest.is_empty() || !is_there(cpus, cpu) {
         return None;
     }
+    let addr = u64::from(addr);
     let bytes = bytes(alloc, rest).ok()?;
     if !lies_in_ram(addr, bytes.len() as u64) {
         return None;
