@@ -1,5 +1,5 @@
 -- What the lines of a header have said, and the terms on which a core is booted by it.
-use Rattle.std.specs.Prelude.{◌≡◌, ◌^◌, Bool, true, false, Option, if◌then◌else◌}
+use Rattle.std.specs.Prelude.{◌≡◌, ◌^◌, Bool, false, Option, if◌then◌else◌}
 use Rattle.kernel_state.specs.Terms.{kept_terms}
 use Rattle.kernel_state.specs.declared.terms.Terms.{Terms}
 use Rattle.live_player.specs.declared.header.Header.{Header}

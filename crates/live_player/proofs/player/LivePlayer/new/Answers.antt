@@ -1,8 +1,7 @@
-use Rattle.std.proofs.Common.{refl, arith, sym, ap}
+use Rattle.std.proofs.Common.{refl, arith, ap}
 use Rattle.live_play.specs.Answer.{platform, uuids_in}
 use Rattle.live_player.specs.Header.{terms_where}
 use Rattle.live_player.proofs.Taking.{none_sound}
-use Rattle.kernel_state.specs.declared.terms.Terms.{Terms}
 use Rattle.live_player.proofs.player.LivePlayer.new.Goals as goal
 
 pub returns : goal.returns

@@ -1,4 +1,4 @@
-use Rattle.std.proofs.Common.{Bool, ap, sym, subst, ◌^◌}
+use Rattle.std.proofs.Common.{◌^◌}
 use Rattle.std.specs.Prelude.{if◌then◌else◌}
 use Rattle.live_player.proofs.Taking.{can_tell_on}
 use Rattle.live_player.proofs.player.LivePlayer.push_told.Goals as goal
