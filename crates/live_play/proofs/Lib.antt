@@ -3,7 +3,9 @@ pub mod Changing
 pub mod Effects
 pub mod Forgetting
 pub mod Grown
+pub mod Limits
 pub mod Outgoing
+pub mod Refused
 pub mod Returned
 pub mod Steps
 pub mod Talking

@@ -177,6 +177,8 @@ ram_behind on inputs input cpu regs is =
 
 pub exits_are_watched : ExitsAreWatched
 exits_are_watched = record {
+  unwatched = λ on before after given none.
+      ap (λ (text : List ℕ). text ++ text_of_ending given.ending) (unwatched-lines on before after given.lines none);
   told = exit_watched;
   laid_over = λ on inputs input cpu regs is.
       let before = after_all on no_lines inputs in

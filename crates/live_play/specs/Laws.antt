@@ -1,5 +1,5 @@
 -- What holds of each conversation.
-use Rattle.std.specs.Prelude.{◌≡◌, ℕ, List, [], ◌∷◌, ◌++◌, Bool, true, None, Some, filter, map}
+use Rattle.std.specs.Prelude.{◌≡◌, ℕ, ◌+◌, ◌<◌, List, [], ◌∷◌, ◌++◌, Bool, true, None, Some, filter, map}
 use Rattle.std.specs.List.{AllZip, flat_map, list_all}
 use Rattle.kernel_model.specs.Application.{IsBooted, Native, booted}
 use Rattle.line_port.specs.History.{Input}
@@ -18,7 +18,8 @@ use Rattle.ta_isa.specs.declared.boot.Boot.{Boot}
 use Rattle.trace_text.specs.Grammar as trace
 use Rattle.trace_text.specs.Limits.{end_fault, trace_in}
 use Rattle.trace_text.specs.declared.fault.BadKind.{BadKind}
-use Rattle.live_play.specs.Answer.{Answer, Bad, Full, Platform, after_heard, answer, copied_at, fault_at, is_done, platform, play_at, refused_at, uuids_in, without_lines}
+use Rattle.trace_text.specs.declared.fault.BadKind.TheVariants as breaks
+use Rattle.live_play.specs.Answer.{Answer, Bad, Full, Platform, TooLong, after_heard, answer, copied_at, fault_at, is_done, platform, play_at, refused_at, uuids_in, without_lines}
 use Rattle.live_play.specs.Conversation.{after_all, answers}
 use Rattle.live_play.specs.Returns.{AsksNothing, IsReturnOf, exits_in, returns_in}
 
@@ -29,7 +30,7 @@ printed_in given = flat_map (λ (a : Answer). a.lines) given
 -- ---- bad lines and refusals
 
 -- a line that breaks a rule is answered by the first one that it breaks; one whose entry is refused, by how many bytes were read
--- before it; and neither counts
+-- before it; and neither counts. Nor does what is no line
 pub record RefusalsChangeNothing : Type 0 where
   pub bad : (on : Platform) (before : NotifyFront) (line : List ℕ) (kind : BadKind) → fault_at on before line ≡ Some kind →
       (answer on before (heard.Line line) ≡ without_lines (Bad kind)) × (after_heard on before (heard.Line line) ≡ before)
@@ -37,6 +38,16 @@ pub record RefusalsChangeNothing : Type 0 where
       refused_at on (after_line before line) ≡ Some more →
       (answer on before (heard.Line line) ≡ without_lines (Full (copied_at on before)))
       × (after_heard on before (heard.Line line) ≡ before)
+  -- behind lines that count, that entry would have brought the bytes that all entries read above what they may
+  pub too_many : (on : Platform) (inputs : List Input) (line : List ℕ) (more : ℕ) →
+      fault_at on (after_all on no_lines inputs) line ≡ None →
+      refused_at on (after_line (after_all on no_lines inputs) line) ≡ Some more →
+      on.most_bytes < copied_at on (after_all on no_lines inputs) + more
+  -- one that is too long, and one that the input ends within, are answered so, and neither counts
+  pub long : (on : Platform) (before : NotifyFront) →
+      (answer on before heard.Long ≡ without_lines TooLong) × (after_heard on before heard.Long ≡ before)
+  pub cut : (on : Platform) (before : NotifyFront) →
+      (answer on before heard.Cut ≡ without_lines (Bad breaks.Cut)) × (after_heard on before heard.Cut ≡ before)
 
 -- ---- each return is the kernel's
 

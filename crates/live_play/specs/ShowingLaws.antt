@@ -2,16 +2,21 @@
 use Rattle.std.specs.Prelude.{◌≡◌, ℕ, List, [], ◌∷◌, ◌++◌, ◌&&◌, Bool, true, false, not, filter, is_none, is_some, Some}
 use Rattle.std.specs.List.{list_all}
 use Rattle.line_port.specs.History.{Event, Hears, Input, Says}
+use Rattle.live_text.specs.Asking.{question_rules}
 use Rattle.live_text.specs.Rules.{LiveFront}
+use Rattle.live_text.specs.Scene.{scene_of}
 use Rattle.live_text.specs.declared.question.QuestionKind.{QuestionKind}
 use Rattle.live_text.specs.declared.question.QuestionKind.TheVariants.{Watch}
 use Rattle.notify_text.specs.Rules.{NotifyFront, no_lines}
 use Rattle.ns_ram.specs.Writes.{lane_after}
 use Rattle.play_model.specs.Line.{Ret, text_of_line}
-use Rattle.live_play.specs.Answer.{Answer, Done, Platform, after_heard, answer, text_of_ending}
+use Rattle.trace_text.specs.Limits.{first_broken}
+use Rattle.trace_text.specs.declared.fault.BadKind.{BadKind}
+use Rattle.live_play.specs.Answer.{Answer, Bad, Done, Ending, Platform, after_heard, answer, is_done, text_of_answer, text_of_ending, without_lines}
 use Rattle.live_play.specs.Changes.{changes}
 use Rattle.live_play.specs.Conversation.{after_all, conversation}
-use Rattle.live_play.specs.Showing.{Position, first_position, history_ending, history_turned, kind_asked_by, lane_at, line_of, lines_after_other, platform_at, position_after, position_behind, showing, shown_to, shown_to_other, shown_to_unasked, text_behind, turns_history, watched_answer}
+use Rattle.live_play.specs.Returns.{returns_in}
+use Rattle.live_play.specs.Showing.{Position, first_position, history_ending, history_fault, history_turned, kind_asked_by, lane_at, line_of, lines_after_other, platform_at, position_after, position_behind, showing, shown_to, shown_to_other, shown_to_unasked, text_behind, turns_history, watched_answer}
 
 -- it asks nothing
 abbrev pub asks_nothing : Input → Bool
@@ -45,6 +50,24 @@ pub record QuestionsChangeNothing : Type 0 where
         lines = (position_behind on here (filter asks_nothing front)).lines;
         is_watching = (position_behind on here front).is_watching;
       }) input
+
+-- ---- what is refused changes nothing
+
+pub record RefusedLinesChangeNothing : Type 0 where
+  -- a line that asks and breaks a rule is answered by the first one that it breaks, and changes nothing: not even whether exits
+  -- are watched
+  pub question : (on : Platform) (here : Position) (input : Input) (kind : QuestionKind) (fault : BadKind) →
+      kind_asked_by input ≡ Some kind →
+      first_broken (question_rules kind (scene_of here.lines) (line_of input)) ≡ Some fault →
+      (shown_to on here input ≡ text_of_ending (Bad fault)) × (position_after on here input ≡ here)
+  -- any other one whose answer ends with something else than `ok`, and what is no line, likewise, exits watched or not
+  pub other : (on : Platform) (here : Position) (input : Input) (ending : Ending) → is_plain input ≡ true →
+      is_done ending ≡ false → answer (platform_at on here.lines) here.lines.told input ≡ without_lines ending →
+      (shown_to on here input ≡ text_of_ending ending) × (position_after on here input ≡ here)
+  -- and one that is to turn history off
+  pub history : (on : Platform) (here : Position) (input : Input) (fault : BadKind) → turns_history input ≡ true →
+      history_fault on here.lines (line_of input) ≡ Some fault →
+      (shown_to on here input ≡ text_of_ending (Bad fault)) × (position_after on here input ≡ here)
 
 -- ---- history off
 
@@ -111,6 +134,9 @@ abbrev pub OthersStay : Platform → NotifyFront → NotifyFront → ℕ → Typ
 OthersStay on before after cpu = (other : ℕ) → (other ≡ cpu → ⊥) → lane_at on after other ≡ lane_at on before other
 
 pub record ExitsAreWatched : Type 0 where
+  -- an answer that has no line `ret` is as where no exit is watched
+  pub unwatched : (on : Platform) (before after : NotifyFront) (given : Answer) → returns_in given.lines ≡ [] →
+      watched_answer on before after given ≡ text_of_answer given
   pub told : (on : Platform) (before : NotifyFront) (input : Input) (cpu : ℕ) (regs : List ℕ) →
       answer on before input ≡ told_out cpu regs → IsWatched on before input cpu regs
   -- behind lines that count, what has changed tells what the processor's RAM is

@@ -3,7 +3,7 @@ ghost use Rattle.live_play.specs.Examples.{Examples};
 ghost use Rattle.live_play.specs.Changes.{ChangesTellAll};
 ghost use Rattle.live_play.specs.Laws.{GoodConversationsAreTraces, RefusalsChangeNothing, TurnsAreTold, UnaskedConversationsAreRuns};
 ghost use Rattle.live_play.specs.ShowingExamples.{ShowingExamples};
-ghost use Rattle.live_play.specs.ShowingLaws.{ExitsAreWatched, HistoryOffForgetsAlone, PlainConversationsAreAsBefore, QuestionsChangeNothing};
+ghost use Rattle.live_play.specs.ShowingLaws.{ExitsAreWatched, HistoryOffForgetsAlone, PlainConversationsAreAsBefore, QuestionsChangeNothing, RefusedLinesChangeNothing};
 
 /// A line that breaks a rule, and one whose entry would have all entries read too much, are answered so, and change nothing.
 pub fn refusals_change_nothing()
@@ -41,6 +41,12 @@ pub fn changes_tell_all()
 /// A line that asks changes nothing that counts, and could as well have been left out.
 pub fn questions_change_nothing()
     ensures { QuestionsChangeNothing }
+{}
+
+/// A line that breaks a rule, of a question or any other, one whose entry is refused, and what is no line are answered so whether
+/// exits are watched or not, and change nothing: not even that.
+pub fn refused_lines_change_nothing()
+    ensures { RefusedLinesChangeNothing }
 {}
 
 /// A line `history off` changes how much entries may read, and whether events are told, and nothing of the lines that count: those
