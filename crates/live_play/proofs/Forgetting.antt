@@ -373,6 +373,7 @@ history_off_forgets_alone = record {
         after_question on here input None asks ∙ ap (λ (lines : LiveFront). record here { lines = lines }) (lines_by on here.lines input true turns),
       );
   stays = kept_as;
+  kept = stays;
   in_order = λ on inputs. record {
     lines = as_without on first_position inputs orderly-first;
     shown = shown-next on (position_behind on first_position inputs);

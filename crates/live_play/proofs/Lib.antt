@@ -12,3 +12,4 @@ pub mod Talking
 pub mod Traces
 pub mod Unasked
 pub mod Watched
+pub mod Widening

@@ -1,5 +1,5 @@
 -- What holds of each conversation in which lines may ask.
-use Rattle.std.specs.Prelude.{◌≡◌, ℕ, List, [], ◌∷◌, ◌++◌, ◌&&◌, Bool, true, false, not, filter, is_none, is_some, Some}
+use Rattle.std.specs.Prelude.{◌≡◌, ℕ, ◌^◌, ◌≤◌, List, [], ◌∷◌, ◌++◌, ◌&&◌, Bool, true, false, not, filter, is_none, is_some, None, Some}
 use Rattle.std.specs.List.{list_all}
 use Rattle.line_port.specs.History.{Event, Hears, Input, Says}
 use Rattle.live_text.specs.Asking.{question_rules}
@@ -7,16 +7,17 @@ use Rattle.live_text.specs.Rules.{LiveFront}
 use Rattle.live_text.specs.Scene.{scene_of}
 use Rattle.live_text.specs.declared.question.QuestionKind.{QuestionKind}
 use Rattle.live_text.specs.declared.question.QuestionKind.TheVariants.{Watch}
+use Rattle.notify_play.specs.NotifyPlay.{NotifyPlay}
 use Rattle.notify_text.specs.Rules.{NotifyFront, no_lines}
 use Rattle.ns_ram.specs.Writes.{lane_after}
 use Rattle.play_model.specs.Line.{Ret, text_of_line}
 use Rattle.trace_text.specs.Limits.{first_broken}
 use Rattle.trace_text.specs.declared.fault.BadKind.{BadKind}
-use Rattle.live_play.specs.Answer.{Answer, Bad, Done, Ending, Platform, after_heard, answer, is_done, text_of_answer, text_of_ending, without_lines}
+use Rattle.live_play.specs.Answer.{Answer, Bad, Done, Ending, Full, Platform, TooLong, after_heard, answer, is_done, play_at, text_of_answer, text_of_ending, without_lines}
 use Rattle.live_play.specs.Changes.{changes}
-use Rattle.live_play.specs.Conversation.{after_all, conversation}
+use Rattle.live_play.specs.Conversation.{after_all, answers, conversation}
 use Rattle.live_play.specs.Returns.{returns_in}
-use Rattle.live_play.specs.Showing.{Position, first_position, history_ending, history_fault, history_turned, kind_asked_by, lane_at, line_of, lines_after_other, platform_at, position_after, position_behind, showing, shown_to, shown_to_other, shown_to_unasked, text_behind, turns_history, watched_answer}
+use Rattle.live_play.specs.Showing.{Position, first_position, history_ending, history_fault, history_turned, kind_asked_by, lane_at, line_of, lines_after_other, platform_at, position_after, position_behind, showing, shown_to, shown_to_other, shown_to_unasked, text_behind, turns_history, watched_answer, within}
 
 -- it asks nothing
 abbrev pub asks_nothing : Input → Bool
@@ -92,6 +93,9 @@ pub record HistoryOffForgetsAlone : Type 0 where
   -- where there is none, the lines of a trace with signals count and are answered as they are alone
   pub stays : (on : Platform) (here : Position) (inputs : List Input) → list_all keeps_history inputs ≡ true →
       IsAsWithout on here inputs
+  -- and history stays as it is
+  pub kept : (on : Platform) (here : Position) (inputs : List Input) → list_all keeps_history inputs ≡ true →
+      (position_behind on here inputs).lines.forgets ≡ here.lines.forgets
   -- and so they do in each conversation
   pub in_order : (on : Platform) (inputs : List Input) → IsAsWithout on first_position inputs
   -- behind a boot history stays as it is
@@ -99,6 +103,34 @@ pub record HistoryOffForgetsAlone : Type 0 where
       is_some (position_behind on first_position front).lines.told.trace.boot ≡ true →
       (position_behind on first_position (front ++ behind)).lines.forgets
       ≡ (position_behind on first_position front).lines.forgets
+
+-- ---- how much entries may read
+
+abbrev pub is_full : Ending → Bool
+is_full Done = false
+is_full (Bad kind) = false
+is_full TooLong = false
+is_full (Full copied) = true
+
+-- no entry was refused
+abbrev pub refuses_none : List Answer → Bool
+refuses_none given = list_all (λ (a : Answer). not (is_full a.ending)) given
+
+-- while no entry is refused, how much entries may read changes nothing
+pub record MoreBytesChangeNothing : Type 0 where
+  -- the play of lines is the same where they may read more
+  pub played : (on : Platform) (most more : ℕ) (lines : NotifyFront) (told : NotifyPlay) → most ≤ more →
+      play_at (within on most) lines ≡ Some told → told.play.refused ≡ None →
+      play_at (within on more) lines ≡ Some (record told { play = record told.play { most_bytes = more } })
+  -- so are all answers, and the lines that count
+  pub answered : (on : Platform) (most more : ℕ) (inputs : List Input) → most ≤ more →
+      refuses_none (answers (within on most) no_lines inputs) ≡ true →
+      (answers (within on more) no_lines inputs ≡ answers (within on most) no_lines inputs)
+      × (after_all (within on more) no_lines inputs ≡ after_all (within on most) no_lines inputs)
+  -- so that, whether a line turns history off or not, of the lines of a trace with signals those count that count alone
+  pub either : (on : Platform) (inputs : List Input) → on.most_bytes ≤ 2 ^ 63 →
+      refuses_none (answers on no_lines (filter is_plain inputs)) ≡ true →
+      (position_behind on first_position inputs).lines.told ≡ after_all on no_lines (filter is_plain inputs)
 
 -- ---- a conversation in which nothing asks, and no line turns history off
 

@@ -3,7 +3,7 @@ ghost use Rattle.live_play.specs.Examples.{Examples};
 ghost use Rattle.live_play.specs.Changes.{ChangesTellAll};
 ghost use Rattle.live_play.specs.Laws.{GoodConversationsAreTraces, RefusalsChangeNothing, TurnsAreTold, UnaskedConversationsAreRuns};
 ghost use Rattle.live_play.specs.ShowingExamples.{ShowingExamples};
-ghost use Rattle.live_play.specs.ShowingLaws.{ExitsAreWatched, HistoryOffForgetsAlone, PlainConversationsAreAsBefore, QuestionsChangeNothing, RefusedLinesChangeNothing};
+ghost use Rattle.live_play.specs.ShowingLaws.{ExitsAreWatched, HistoryOffForgetsAlone, MoreBytesChangeNothing, PlainConversationsAreAsBefore, QuestionsChangeNothing, RefusedLinesChangeNothing};
 
 /// A line that breaks a rule, and one whose entry would have all entries read too much, are answered so, and change nothing.
 pub fn refusals_change_nothing()
@@ -53,6 +53,11 @@ pub fn refused_lines_change_nothing()
 /// of a trace with signals are answered as they are without it, up to that limit.
 pub fn history_off_forgets_alone()
     ensures { HistoryOffForgetsAlone }
+{}
+
+/// While no entry is refused, how much all entries may read changes nothing: so a conversation goes the same with history off.
+pub fn more_bytes_change_nothing()
+    ensures { MoreBytesChangeNothing }
 {}
 
 /// A conversation in which no line asks or turns history off, and no exit is watched, is what it is without such lines.

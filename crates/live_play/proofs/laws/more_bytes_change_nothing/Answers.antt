@@ -1,0 +1,5 @@
+use Rattle.live_play.proofs.Widening.{more_bytes_change_nothing as law}
+use Rattle.live_play.proofs.laws.more_bytes_change_nothing.Goals as goal
+
+pub returns : goal.returns
+returns c = law
