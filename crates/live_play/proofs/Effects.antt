@@ -49,11 +49,11 @@ pub data Effect (before after : NotifyFront) : Type 0 where
 
 -- ---- words
 
-no_signals : (signals : List Signal) → has_no_signal signals ≡ true → signals ≡ []
+pub no_signals : (signals : List Signal) → has_no_signal signals ≡ true → signals ≡ []
 no_signals [] e = refl
 no_signals (signal ∷ signals) e = absurd cc
 
-no_items : (items : List Item) → has_no_item items ≡ true → items ≡ []
+pub no_items : (items : List Item) → has_no_item items ≡ true → items ≡ []
 no_items [] e = refl
 no_items (i ∷ items) e = absurd cc
 

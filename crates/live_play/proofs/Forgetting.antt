@@ -46,7 +46,7 @@ turning_asks heard.Long e = absurd cc
 turning_asks heard.Cut e = absurd cc
 
 -- of the lines before it nothing changes
-turned-told : (lines : LiveFront) (fault : Option BadKind)
+pub turned-told : (lines : LiveFront) (fault : Option BadKind)
     → (option_map_or (λ (kind : BadKind). lines) fault (without_history lines)).told ≡ lines.told
 turned-told lines None = refl
 turned-told lines (Some kind) = refl
@@ -75,7 +75,7 @@ turning_rules lines line =
 abbrev told_rules : Platform → LiveFront → List ℕ → List (BadKind × Bool)
 told_rules on lines line = told.line_rules (uuids_in on) lines.told true line
 
-booted_turned : (on : Platform) (lines : LiveFront) (input : Input) → turns_history input ≡ true
+pub booted_turned : (on : Platform) (lines : LiveFront) (input : Input) → turns_history input ≡ true
     → is_some lines.told.trace.boot ≡ true → history_turned on lines (line_of input) ≡ lines
 unfolding live.line_rules
 booted_turned on lines (heard.Line line) turns there =
@@ -182,7 +182,7 @@ follows on before heard.Cut orderly = follows-same before orderly
 -- ---- a line
 
 -- what a line comes to: it asks; it turns history off, or is refused that; or it is one of a trace with signals
-data Comes (on : Platform) (here : Position) (input : Input) : Type 0 where
+pub data Comes (on : Platform) (here : Position) (input : Input) : Type 0 where
   Asks : is_plain input ≡ false → (position_after on here input).lines ≡ here.lines → Comes on here input
   Turns : is_plain input ≡ false → turns_history input ≡ true
       → (position_after on here input).lines ≡ history_turned on here.lines (line_of input) → Comes on here input
@@ -203,7 +203,7 @@ comes on here input None false asks is =
     Others (ap (λ (o : Option QuestionKind). plain_by o (turns_history input)) asks ∙ ap not is)
     (after_lines on here input None asks ∙ lines_by on here.lines input false is)
 
-come : (on : Platform) (here : Position) (input : Input) → Comes on here input
+pub come : (on : Platform) (here : Position) (input : Input) → Comes on here input
 come on here input = comes on here input (kind_asked_by input) (turns_history input) refl refl
 
 -- where it stands then

@@ -1,5 +1,6 @@
 pub mod Asked
 pub mod Changing
+pub mod Copying
 pub mod Effects
 pub mod Forgetting
 pub mod Grown

@@ -1,6 +1,6 @@
 -- By which steps a processor goes out: its line `ret` is printed then, its RAM isn't shorter, and that of the others stays.
 use Rattle.std.proofs.Common.{◌≡◌, ℕ, ◌≤◌, List, [], ◌∷◌, ◌++◌, length, drop, Option, Some, None, refl, sym, ap, subst, ◌∙◌, append-nil, arith}
-use Rattle.std.specs.Prelude.{slice_index_or}
+use Rattle.std.specs.Prelude.{slice_index_or, slice_set}
 use Rattle.std.specs.Option.{option_and_then, option_map_or}
 use Rattle.std.proofs.Math.Seq.{drop-append_seam, drop-nil}
 use Rattle.std.proofs.lemmas.List.{get_or-set_other}
@@ -35,6 +35,8 @@ use Rattle.live_play.proofs.Talking.{answer_unless, printed_by, refused_by}
 pub record GoesOut (cpu : ℕ) (before after : NotifyPlay) : Type 0 where
   pub regs : List ℕ
   pub lines : after.play.lines ≡ before.play.lines ++ Ret cpu regs ∷ []
+  pub lane : List ℕ
+  pub put : after.play.lanes ≡ slice_set before.play.lanes cpu lane
   pub longer : length (lane_of before.play cpu) ≤ length (lane_of after.play cpu)
   pub others : (other : ℕ) → (other ≡ cpu → ⊥) → lane_of after.play other ≡ lane_of before.play other
 
@@ -49,11 +51,11 @@ stays-not before after same = record { lines = []; are = same ∙ sym (append-ni
 
 -- ---- entries
 
-record ComesIn (before after : NotifyPlay) : Type 0 where
-  lines : after.play.lines ≡ before.play.lines
-  lanes : after.play.lanes ≡ before.play.lanes
+pub record ComesIn (before after : NotifyPlay) : Type 0 where
+  pub lines : after.play.lines ≡ before.play.lines
+  pub lanes : after.play.lanes ≡ before.play.lanes
 
-comes : (boot : Booted) (cpu steps : ℕ) (regs : List Reg) (before after : NotifyPlay)
+pub comes : (boot : Booted) (cpu steps : ℕ) (regs : List Reg) (before after : NotifyPlay)
     → comes_in boot cpu steps regs before ≡ Some after → ComesIn before after
 comes boot cpu steps regs before after e =
     let visit = visit_with before cpu steps regs in
@@ -85,6 +87,10 @@ goes boot drivers cpu before after e =
       regs = regs;
       lines = ap (λ (n : NotifyPlay). n.play.lines) (sym came.2)
           ∙ ap (λ (l : List Line). l ++ Ret cpu regs ∷ []) (event-lines boot event before.play gone came.1);
+      lane = lane_after (lane_of gone cpu) writes;
+      put = ap (λ (n : NotifyPlay). n.play.lanes) (sym came.2)
+          ∙ ap (λ (lanes : List (List ℕ)). slice_set lanes cpu (lane_after (lane_of gone cpu) writes))
+          (event_lanes boot event before.play gone came.1);
       longer = omega (arith, wrote, was, is);
       others = λ other apart.
           ap (λ (n : NotifyPlay). lane_of n.play other) (sym came.2)
@@ -104,6 +110,8 @@ goes-behind boot drivers cpu before between after came None is e going =
     record {
       regs = out.regs;
       lines = out.lines ∙ ap (λ (l : List Line). l ++ Ret cpu out.regs ∷ []) came.lines;
+      lane = out.lane;
+      put = out.put ∙ ap (λ (lanes : List (List ℕ)). slice_set lanes cpu out.lane) came.lanes;
       longer = omega (arith, was, out.longer);
       others = λ other apart.
           out.others other apart ∙ ap (λ (lanes : List (List ℕ)). slice_index_or lanes other []) came.lanes;

@@ -126,7 +126,7 @@ step-grown on boot before after last e there = by (play_at on before) refl
         }
 
 -- what is whole with a boot has a play
-whole_there : (on : Platform) (lines : NotifyFront) (boot : Boot) → lines.trace.boot ≡ Some boot → IsWhole on lines
+pub whole_there : (on : Platform) (lines : NotifyFront) (boot : Boot) → lines.trace.boot ≡ Some boot → IsWhole on lines
     → IsSome (play_at on lines)
 whole_there on lines boot there (inl none) = absurd (let no : None ≡ Some boot = sym none ∙ there in cc)
 whole_there on lines boot there (inr some) = some

@@ -8,4 +8,5 @@ pub mod State
 pub mod Panicking
 pub mod Showing
 pub mod ShowingLaws
+pub mod Copies
 pub mod ShowingExamples

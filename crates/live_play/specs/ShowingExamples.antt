@@ -15,6 +15,7 @@ use Rattle.shm_registry.specs.Registered.{Registered}
 use Rattle.ta_isa.specs.declared.image.Image.{Image}
 use Rattle.ta_step.specs.State.{State}
 use Rattle.live_play.specs.Changes.{changes, text_of_changes}
+use Rattle.live_play.specs.Copies.{copy_behind, watches}
 use Rattle.live_play.specs.Examples.{Turn, events_of, inputs_of, ok, on, turn, uid_told, zeros_told}
 use Rattle.live_play.specs.Panicking.{panic_line}
 use Rattle.live_play.specs.Showing.{first_position, showing, within}
@@ -128,6 +129,19 @@ pub record ShowingExamples : Type 0 where
       ∷ turn (codes "write 0 40000014 00") ok
       ∷ turn zeros_call (zeros_told ∷ ok)
       ∷ [])
+  -- who keeps a copy has RAM behind such an exit, and behind a line that writes
+  pub of_a_copy : copy_behind on first_position (inputs_of (
+      turn (codes "watch on") ok
+      ∷ turn (codes "boot 1 1 1") ok
+      ∷ turn (codes "mem 4000003e 00ff") ok
+      ∷ turn zeros_call (zeros_told ∷ ok)
+      ∷ turn (codes "write 0 40000030 07") ok
+      ∷ turn (codes "write 0 3fffffff 07") (codes "bad range" ∷ [])
+      ∷ turn (codes "show 0 40000000 1") (codes "mem 0 40000000 00" ∷ ok)
+      ∷ [])) []
+      ≡ (replicate 20 0 ++ (6 ∷ 0 ∷ 255 ∷ 255 ∷ 3 ∷ (replicate 23 0 ++ (7 ∷ (replicate 14 0 ++ 255 ∷ []))))) ∷ []
+  -- but not behind one that isn't watched
+  pub of_no_copy : watches on first_position (inputs_of (turn (codes "boot 1 1 1") ok ∷ turn zeros_call (zeros_told ∷ ok) ∷ [])) ≡ false
   -- history is turned off once, before the boot; then no events are told, and their count is as it was
   pub of_history_off : Shows (
       turn (codes "history on") (codes "bad item" ∷ [])

@@ -1,6 +1,7 @@
 //! What holds of the definitions themselves.
 ghost use Rattle.live_play.specs.Examples.{Examples};
 ghost use Rattle.live_play.specs.Changes.{ChangesTellAll};
+ghost use Rattle.live_play.specs.Copies.{CopiesAreRam};
 ghost use Rattle.live_play.specs.Laws.{GoodConversationsAreTraces, RefusalsChangeNothing, TurnsAreTold, UnaskedConversationsAreRuns};
 ghost use Rattle.live_play.specs.ShowingExamples.{ShowingExamples};
 ghost use Rattle.live_play.specs.ShowingLaws.{ExitsAreWatched, HistoryOffForgetsAlone, MoreBytesChangeNothing, PlainConversationsAreAsBefore, QuestionsChangeNothing, RefusedLinesChangeNothing};
@@ -68,6 +69,12 @@ pub fn plain_conversations_are_as_before()
 /// What stands behind the line of an exit that is watched.
 pub fn exits_are_watched()
     ensures { ExitsAreWatched }
+{}
+
+/// Who keeps a copy of each processor's RAM by the bytes of the header, its own lines `write` and the lines `wrote` has the RAM that the
+/// core sees, behind each answer of a conversation in which each exit is watched.
+pub fn copies_are_ram()
+    ensures { CopiesAreRam }
 {}
 
 /// Examples of conversations in which lines ask.
