@@ -6,6 +6,7 @@ pub mod Forgetting
 pub mod Grown
 pub mod Limits
 pub mod Outgoing
+pub mod Panicked
 pub mod Refused
 pub mod Returned
 pub mod Steps

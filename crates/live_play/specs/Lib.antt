@@ -6,6 +6,7 @@ pub mod Examples
 pub mod Changes
 pub mod State
 pub mod Panicking
+pub mod PanickingLaws
 pub mod Showing
 pub mod ShowingLaws
 pub mod Copies

@@ -3,6 +3,7 @@ ghost use Rattle.live_play.specs.Examples.{Examples};
 ghost use Rattle.live_play.specs.Changes.{ChangesTellAll};
 ghost use Rattle.live_play.specs.Copies.{CopiesAreRam};
 ghost use Rattle.live_play.specs.Laws.{GoodConversationsAreTraces, RefusalsChangeNothing, TurnsAreTold, UnaskedConversationsAreRuns};
+ghost use Rattle.live_play.specs.PanickingLaws.{PanicsEndCalls};
 ghost use Rattle.live_play.specs.ShowingExamples.{ShowingExamples};
 ghost use Rattle.live_play.specs.ShowingLaws.{ExitsAreWatched, HistoryOffForgetsAlone, MoreBytesChangeNothing, PlainConversationsAreAsBefore, QuestionsChangeNothing, RefusedLinesChangeNothing};
 
@@ -75,6 +76,11 @@ pub fn exits_are_watched()
 /// core sees, behind each answer of a conversation in which each exit is watched.
 pub fn copies_are_ram()
     ensures { CopiesAreRam }
+{}
+
+/// Behind the exit at which a panic is told its call has ended, and of a call that has ended none is told.
+pub fn panics_end_calls()
+    ensures { PanicsEndCalls }
 {}
 
 /// Examples of conversations in which lines ask.
