@@ -2,6 +2,7 @@ pub mod Asked
 pub mod Changing
 pub mod Copying
 pub mod Effects
+pub mod Ended
 pub mod Forgetting
 pub mod Grown
 pub mod Limits

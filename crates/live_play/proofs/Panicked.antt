@@ -14,7 +14,7 @@ use Rattle.live_play.specs.PanickingLaws.{IsEnded, PanicsEndCalls, has_ended, ha
 -- ---- behind the exit
 
 -- a call that has its result leaves its slot with it, or free
-left_ended : (call : PendingCall) (leaving : Leaving) → has_result call.phase ≡ true → has_ended (slot_left call leaving) ≡ true
+pub left_ended : (call : PendingCall) (leaving : Leaving) → has_result call.phase ≡ true → has_ended (slot_left call leaving) ≡ true
 left_ended call Interrupted ended = ended
 left_ended call WantsBuffer ended = ended
 left_ended call (Requests place request) ended = ended

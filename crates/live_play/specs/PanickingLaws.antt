@@ -2,7 +2,10 @@
 use Rattle.std.specs.Prelude.{◌≡◌, ℕ, Bool, true, false, Option, None, Some, slice_get}
 use Rattle.std.specs.Option.{option_and_then}
 use Rattle.core_at_work.specs.Panics.{panic_of}
+use Rattle.event_journal.specs.declared.event.Event.{Event}
+use Rattle.kernel_model.specs.Application.{Booted}
 use Rattle.kernel_model.specs.Exit.{Exited, exit}
+use Rattle.kernel_model.specs.History.{after_event}
 use Rattle.kernel_model.specs.Kernel.{Active, Asks, CallPhase, Ends, Fixed, Free, InSlot, Inside, Kernel, Outside, Processor, Runs, Suspended, ThreadSlot, Waits}
 
 -- the slot of the call that a processor works on
@@ -40,3 +43,8 @@ pub record PanicsEndCalls : Type 0 where
   -- and of one that has, none is told, as where a buffer is asked back behind it
   pub told_no_more : (kernel : Kernel) (cpu slot : ℕ) → slot_at kernel cpu ≡ Some slot → IsEnded kernel slot →
       panic_of kernel cpu ≡ None
+
+-- whatever comes next, a call that has ended has ended still, until it leaves its slot: so each panic is told once
+abbrev pub EndedCallsStay : Type 0
+EndedCallsStay = (boot : Booted) (kernel next : Kernel) (event : Event) (slot : ℕ) → after_event boot kernel event ≡ Some next →
+    (ended : IsEnded kernel slot) → (ended.held ≡ Free → ⊥) → IsEnded next slot

@@ -3,7 +3,7 @@ ghost use Rattle.live_play.specs.Examples.{Examples};
 ghost use Rattle.live_play.specs.Changes.{ChangesTellAll};
 ghost use Rattle.live_play.specs.Copies.{CopiesAreRam};
 ghost use Rattle.live_play.specs.Laws.{GoodConversationsAreTraces, RefusalsChangeNothing, TurnsAreTold, UnaskedConversationsAreRuns};
-ghost use Rattle.live_play.specs.PanickingLaws.{PanicsEndCalls};
+ghost use Rattle.live_play.specs.PanickingLaws.{EndedCallsStay, PanicsEndCalls};
 ghost use Rattle.live_play.specs.ShowingExamples.{ShowingExamples};
 ghost use Rattle.live_play.specs.ShowingLaws.{ExitsAreWatched, HistoryOffForgetsAlone, MoreBytesChangeNothing, PlainConversationsAreAsBefore, QuestionsChangeNothing, RefusedLinesChangeNothing};
 
@@ -81,6 +81,11 @@ pub fn copies_are_ram()
 /// Behind the exit at which a panic is told its call has ended, and of a call that has ended none is told.
 pub fn panics_end_calls()
     ensures { PanicsEndCalls }
+{}
+
+/// A call that has ended has ended still behind each event, until it leaves its slot: so each panic is told once.
+pub fn ended_calls_stay()
+    ensures { EndedCallsStay }
 {}
 
 /// Examples of conversations in which lines ask.

@@ -11,9 +11,9 @@ mod laws;
 mod status;
 
 pub use laws::{
-    changes_tell_all, copies_are_ram, exits_are_watched, good_conversations_are_traces,
-    history_off_forgets_alone, more_bytes_change_nothing, panics_end_calls,
-    plain_conversations_are_as_before, questions_change_nothing, questions_shown,
+    changes_tell_all, copies_are_ram, ended_calls_stay, exits_are_watched,
+    good_conversations_are_traces, history_off_forgets_alone, more_bytes_change_nothing,
+    panics_end_calls, plain_conversations_are_as_before, questions_change_nothing, questions_shown,
     refusals_change_nothing, refused_lines_change_nothing, turns_are_told,
     unasked_conversations_are_runs, worked_examples,
 };
