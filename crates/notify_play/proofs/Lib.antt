@@ -1,3 +1,4 @@
 pub mod Following
+pub mod Limit
 pub mod Asking
 pub mod Ordered

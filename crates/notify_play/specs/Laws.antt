@@ -4,11 +4,11 @@ use Rattle.std.specs.Option.{option_map}
 use Rattle.event_journal.specs.Journal.{copied_bytes}
 use Rattle.event_journal.specs.declared.event.Event.{Event}
 use Rattle.kernel_model.specs.Application.{Booted, IsBooted, Native, booted}
-use Rattle.kernel_model.specs.Argument.{reg}
+use Rattle.kernel_model.specs.Argument.{IsNew, reg}
 use Rattle.kernel_model.specs.Exit.{Exited, exit}
 use Rattle.kernel_model.specs.History.{IsLegal, kernel_after}
 use Rattle.kernel_model.specs.Laws.{FindsNoCall, FindsNoSlot}
-use Rattle.notif.specs.Desk.{driver_calls}
+use Rattle.notif.specs.Desk.{DeskState, driver_calls}
 use Rattle.notif.specs.History.{DeskCall, owed_calls}
 use Rattle.notify_text.specs.Steps.{Step}
 use Rattle.play_model.specs.Laws.{AloneIn, ReturnsIn, TogetherIn, ToldIn}
@@ -22,6 +22,7 @@ use Rattle.notify_play.specs.Asked.{asked, others_among, signalled, signals_amon
 use Rattle.notify_play.specs.Duty.{CameIn, Nothing, duty_of}
 use Rattle.notify_play.specs.NotifyPlay.{Drivers, NotifyPlay, after_steps, desk_of, duty_at, first_notify_play, goes_out}
 use Rattle.notify_play.specs.Order.{HoldsSteps}
+use Rattle.notify_play.specs.Told.{told_regs}
 
 -- what holds of a play with signals whose entries may read so many bytes, whatever was signalled
 pub record IsNotifyPlay (most_bytes : ℕ) (boot : Booted) (drivers : Drivers) (told : NotifyPlay) : Type 0 where
@@ -91,6 +92,14 @@ StepsCallDesk = (boot : Booted) (drivers : Drivers) (steps : List Step) (before 
 -- the exit of a return from RPC asks nothing of the desk
 abbrev pub ResumesAskNothing : Type 0
 ResumesAskNothing = (came : CameIn) (a0 : ℕ) → call_of (reg came.regs 0) ≡ Resume → duty_of came a0 ≡ Nothing
+
+-- ETHREAD_LIMIT, which is 1, is told where the kernel says so: the desk makes none, and hides none that is said to a new call. To others
+-- the kernel never says so (`no_slot` of `IsNotifyPlay`)
+pub record LimitIsTheKernels : Type 0 where
+  pub made : (desk : DeskState) (came : CameIn) (answered : List ℕ) →
+      reg (told_regs desk came.regs answered (duty_of came (reg answered 0))) 0 ≡ 1 → reg answered 0 ≡ 1
+  pub kept : (desk : DeskState) (came : CameIn) (answered : List ℕ) → IsNew came.regs → reg answered 0 ≡ 1 →
+      told_regs desk came.regs answered (duty_of came (reg answered 0)) ≡ answered
 
 -- an exit that asks nothing of the desk comes to the kernel, the RAM and the lines to which it comes without signals
 abbrev pub OtherExitsStay : Type 0

@@ -1,6 +1,6 @@
 //! What holds of the definitions themselves.
 ghost use Rattle.notify_play.specs.Examples.{Examples};
-ghost use Rattle.notify_play.specs.Laws.{OtherExitsStay, ResumesAskNothing, StepsArePlayed, StepsCallDesk};
+ghost use Rattle.notify_play.specs.Laws.{LimitIsTheKernels, OtherExitsStay, ResumesAskNothing, StepsArePlayed, StepsCallDesk};
 ghost use Rattle.notify_play.specs.Laws.{StepsHoldInOrder};
 
 /// Whatever was signalled, the history of each play is legal and keeps the kernel's own answers, from which follows
@@ -29,6 +29,12 @@ pub fn steps_call_desk()
 /// history, its lines and what its processor was told last.
 pub fn resumes_ask_nothing()
     ensures { ResumesAskNothing }
+{}
+
+/// An answer ETHREAD_LIMIT that is told is the kernel's, and so each that the kernel gives to a new call is told: the desk makes
+/// none, and hides none.
+pub fn limit_is_the_kernels()
+    ensures { LimitIsTheKernels }
 {}
 
 /// An exit that asks nothing of the desk comes to the kernel, the RAM and the lines to which it comes without signals.

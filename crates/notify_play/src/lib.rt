@@ -9,6 +9,6 @@
 mod laws;
 
 pub use laws::{
-    other_exits_stay, resumes_ask_nothing, steps_are_played, steps_call_desk, steps_hold_in_order,
-    worked_examples,
+    limit_is_the_kernels, other_exits_stay, resumes_ask_nothing, steps_are_played, steps_call_desk,
+    steps_hold_in_order, worked_examples,
 };
