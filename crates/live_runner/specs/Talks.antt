@@ -29,7 +29,8 @@ pub record Talks (on : Platform) (old new : Option (List Event)) (finish : Finis
   pub half_said : (input : Input) (part : List ℕ) → talk.rest ≡ Hears input ∷ Says part ∷ []
       → AreHeld on (talk.inputs ++ input ∷ [])
 
--- nothing that asks, or turns history off, is among what the history grew by
+-- nothing that asks, or turns history off, is among what the history grew by. Of a port that tells no history, as of one over a reader
+-- and a writer, it never holds, so that nothing hangs on it there
 abbrev pub HearsNoQuestion : Option (List Event) → Option (List Event) → Type 0
 HearsNoQuestion old new = (events : List Event) → Adds old new events → list_all hears_plain events ≡ true
 
