@@ -4,7 +4,8 @@
 //! has what is answered to a line and which lines count behind it, `Conversation` what is heard and said, and how it ends,
 //! `Returns` which `ret` line is of which exit, and `Laws` what holds of each conversation. Behind them stand conversations in
 //! which lines ask, and those with history off: `Changes` has what an exit changes in RAM, `State` the text of what a kernel keeps,
-//! `Showing` what is answered then, and `ShowingLaws` what holds of them.
+//! `Showing` what is answered then, `ShowingLaws` what holds of them, and `PanickingLaws` of the panics that are told; `Copies` the copy
+//! of RAM that is kept beside one.
 #![tactic(auto)]
 
 mod laws;
