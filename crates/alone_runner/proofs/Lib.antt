@@ -5,3 +5,4 @@ pub mod Running
 pub mod Plays
 pub mod Gathered
 pub mod Digests
+pub mod Counting

@@ -1,5 +1,5 @@
 -- How many answers of each kind were counted, and as text.
-use Rattle.std.specs.Prelude.{◌≡◌, ℕ, Bool, List, [], ◌∷◌, ◌++◌, codes}
+use Rattle.std.specs.Prelude.{◌≡◌, ◌+◌, ◌<◌, ℕ, Bool, List, [], ◌∷◌, ◌++◌, codes, if◌then◌else◌}
 use Rattle.std.specs.Fmt.{decimal}
 use Rattle.event_journal.specs.declared.event.Event.{Event}
 use Rattle.hex.specs.Hex.{encode_lower}
@@ -21,6 +21,22 @@ pub record AreCounts (history : List Event) (counts : AnswerCounts) : Type 0 whe
   pub limit : counts.limit ≡ answers_in history is_limit
   pub resume : counts.resume ≡ answers_in history is_resume
   pub rpc : counts.rpc ≡ answers_in history is_rpc
+
+-- with an answer more that has this a0
+abbrev pub with_answer : ℕ → AnswerCounts → AnswerCounts
+with_answer a0 counts = record {
+  ok = if is_ok a0 then counts.ok + 1 else counts.ok;
+  limit = if is_limit a0 then counts.limit + 1 else counts.limit;
+  resume = if is_resume a0 then counts.resume + 1 else counts.resume;
+  rpc = if is_rpc a0 then counts.rpc + 1 else counts.rpc;
+}
+
+-- each of them is below this
+pub record AreBelow (bound : ℕ) (counts : AnswerCounts) : Type 0 where
+  pub ok : counts.ok < bound
+  pub limit : counts.limit < bound
+  pub resume : counts.resume < bound
+  pub rpc : counts.rpc < bound
 
 -- as in a summary
 abbrev pub counts_text : AnswerCounts → List ℕ

@@ -3,11 +3,9 @@
 ghost use Rattle.std.specs.Prelude.{◌≡◌, ◌+◌, ◌<◌, ◌^◌, if◌then◌else◌, ◌∷◌, [], ◌++◌, codes, IfOk, OnOk};
 ghost use Rattle.std.specs.Fmt.{decimal};
 ghost use Rattle.hex.specs.Hex.{encode_lower};
-ghost use Rattle.made_play.specs.Summary.{answers};
-ghost use Rattle.alone_runner.specs.Counts.{AreCounts, counts_text, is_of_kind, line_with};
+ghost use Rattle.alone_runner.specs.Counts.{AreBelow, AreCounts, counts_text, is_of_kind, line_with, with_answer};
 
 use answer_lines::{push_hex, push_numbered};
-use event_journal::Event;
 use smc_abi::{ERESUME, ETHREAD_LIMIT, OK, UNKNOWN_FUNCTION};
 use std::alloc::{AllocError, Global};
 
@@ -39,19 +37,9 @@ impl AnswerKind {
             AnswerKind::Rpc => a0 / 0x1_0000 == RPC_PREFIX && a0 != UNKNOWN_FUNCTION,
         }
     }
-
-    /// Whether an event is an answer of the kind.
-    fn is_told_by(self, event: &Event) -> bool
-        ensures { result ≡ answers (is_of_kind self) event.now }
-    {
-        match event {
-            Event::Entry { .. } => false,
-            Event::Exit { regs, .. } => self.has(regs.a[0]),
-        }
-    }
 }
 
-/// How many answers of a history were of each kind.
+/// How many answers were of each kind.
 #[derive(Clone, Copy)]
 pub struct AnswerCounts {
     pub ok: usize,
@@ -69,23 +57,28 @@ fn more_if(is_so: bool, count: usize) -> usize
 }
 
 impl AnswerCounts {
-    /// Those of a history.
-    pub fn of(history: &[Event]) -> AnswerCounts
-        ensures { AreCounts history.now result }
+    /// Those of no answers.
+    pub fn none() -> AnswerCounts
+        ensures counts { AreCounts [] result }
+        ensures few { AreBelow 1 result }
     {
-        let mut counts = AnswerCounts {
+        AnswerCounts {
             ok: 0,
             limit: 0,
             resume: 0,
             rpc: 0,
-        };
-        for event in history {
-            counts.ok = more_if(AnswerKind::Ok.is_told_by(event), counts.ok);
-            counts.limit = more_if(AnswerKind::Limit.is_told_by(event), counts.limit);
-            counts.resume = more_if(AnswerKind::Resume.is_told_by(event), counts.resume);
-            counts.rpc = more_if(AnswerKind::Rpc.is_told_by(event), counts.rpc);
         }
-        counts
+    }
+
+    /// Counts an answer with this a0.
+    pub fn add(&mut self, a0: u32)
+        requires { AreBelow (2 ^ 63) self.old }
+        ensures { self.new ≡ with_answer a0 self.old }
+    {
+        self.ok = more_if(AnswerKind::Ok.has(a0), self.ok);
+        self.limit = more_if(AnswerKind::Limit.has(a0), self.limit);
+        self.resume = more_if(AnswerKind::Resume.has(a0), self.resume);
+        self.rpc = more_if(AnswerKind::Rpc.has(a0), self.rpc);
     }
 }
 

@@ -1,8 +1,7 @@
 -- A trace that has a boot is that of its boot, its fills and its items.
-use Rattle.std.proofs.Common.{Option, ap, subst, sym}
+use Rattle.std.proofs.Common.{Option, subst, sym}
 use Rattle.std.proofs.lemmas.Result.{IfOk-weaker}
 use Rattle.std.specs.Prelude.{IfSome}
-use Rattle.kernel_state.specs.declared.terms.Terms.{Terms}
 use Rattle.native_tas.specs.Table.{entries}
 use Rattle.ta_isa.specs.declared.boot.Boot.{Boot}
 use Rattle.trace_text.specs.Sound.{IsSound, IsSoundBoot}
@@ -11,12 +10,12 @@ use Rattle.trace_player.specs.Starting.{IsAtStart, uuids_of}
 use Rattle.trace_player.proofs.Playable.{at-start, same-trace}
 use Rattle.alone_runner.proofs.digesting.digest_play.Goals as goal
 
-pub booted-requires-clause-boot : goal.booted-requires-clause-boot
-booted-requires-clause-boot g c =
+pub counting-requires-clause-boot : goal.counting-requires-clause-boot
+counting-requires-clause-boot g c =
     subst (λ (o : Option Boot). IfSome o (IsSoundBoot (uuids_of (entries c.args.natives.now)))) c.in-Some.is c.requires.sound.boot
 
-pub digest_items-requires-clause-start : goal.digest_items-requires-clause-start
-digest_items-requires-clause-start g c =
+pub digest_items-requires : goal.digest_items-requires
+digest_items-requires g c =
     let natives = entries c.args.natives.now in
     let same = same-trace c.args.trace c.in-Some.boot _ _ c.in-Some.is c.as_slice.ensures c.as_slice-2.ensures in (
       natives,
@@ -25,9 +24,6 @@ digest_items-requires-clause-start g c =
           (at-start natives c.in-Some.boot _ _ c.in-Ok.player (subst (IsSound (uuids_of natives)) (sym same) c.requires.sound)
           c.in-Ok.ensures.boots c.in-Ok.ensures.stands),
     )
-
-pub digest_items-requires-clause-keeps : goal.digest_items-requires-clause-keeps
-digest_items-requires-clause-keeps g c = ap (λ (terms : Terms). terms.keeps) c.in-Ok.ensures.terms
 
 pub returns-clause-told : goal.returns-clause-told
 returns-clause-told g c =
