@@ -1,6 +1,5 @@
 -- Numbers among words, and which command words ask for.
-use Rattle.std.proofs.Common.{◌≡◌, ◌↔◌, ℕ, ◌^◌, ◌<◌, ◌≤◌, ◌==◌, Bool, false, List, [], ◌∷◌, length, get_or, refl, sym, ap, ◌∙◌, arith}
-use Rattle.std.specs.Prelude.{IsTrue, codes}
+use Rattle.std.proofs.Common.{◌≡◌, ℕ, ◌^◌, ◌<◌, ◌≤◌, ◌==◌, false, List, [], ◌∷◌, length, refl, sym, ap, ◌∙◌, arith}
 use Rattle.std.specs.Fmt.{decimal}
 use Rattle.std.specs.Str.{bytes_eq}
 use Rattle.std.proofs.lemmas.Bool.Decides.{nat_tests}
@@ -9,8 +8,8 @@ use Rattle.std.proofs.lemmas.Slice.Eq.{bytes_eq-Decides}
 use Rattle.compare_model.specs.declared.subject.Subject.{Subject}
 use Rattle.compare_model.specs.declared.subject.Subject.TheVariants.{Session, Group}
 use Rattle.trace_text.specs.Forms.{is_uuid}
-use Rattle.alone_runner.specs.Words.{IsNumbered, Names, Say, SayNothing}
-use Rattle.alone_runner.specs.declared.command.Command.TheVariants.{Serve, Threads, Record, Audit, Compare, Notify, Client, Work}
+use Rattle.alone_runner.specs.Words.{IsNumbered, Names, SayNothing}
+use Rattle.alone_runner.specs.declared.command.Command.TheVariants.{Serve, Record, Audit, Compare, Notify, Client, Work}
 
 -- texts that differ are not one number's
 pub other_text : (text word : List ℕ) (one other : ℕ) → bytes_eq text word ≡ false → text ≡ decimal one → one ≡ other
@@ -24,7 +23,6 @@ other_text text word one other differs is same said =
 pub too_many : (word seed count : List ℕ) (number : ℕ) → number < 2 ^ 64 → 2 ^ 16 < number → count ≡ decimal number
     → SayNothing (word ∷ seed ∷ count ∷ [])
 too_many word seed count number below many is (Serve grammar) say = let e = say.words in absurd cc
-too_many word seed count number below many is Threads say = let e = say.words in absurd cc
 too_many word seed count number below many is Record say = let e = say.words in absurd cc
 too_many word seed count number below many is Audit say = let e = say.words in absurd cc
 too_many word seed count number below many is (Compare subject) say = let e = say.words.2 in absurd cc
@@ -52,14 +50,3 @@ no_uuid number word small is =
     let short : length (decimal number) ≤ 10 = length-decimal-le 10 number (omega arith) (omega (arith, small)) (omega (arith, small)) in
     let differs : (length word == 36) ≡ false = grind (arith, nat_tests, ap length is, short) in
     rw differs refl
-
--- a word that equals `threads` says it, and no other does
-pub is_threads : (word : List ℕ) (same : Bool) → same ≡ bytes_eq word (codes "threads")
-    → IsTrue same ↔ Say (word ∷ []) Threads
-is_threads word same is = (
-  λ yes. record {
-    within = tt;
-    words = ap (λ (w : List ℕ). w ∷ []) ((bytes_eq-Decides word (codes "threads")).0 (sym is ∙ yes));
-  },
-  λ said. is ∙ (bytes_eq-Decides word (codes "threads")).1 (ap (λ (ws : List (List ℕ)). get_or ws 0 []) said.words),
-)

@@ -6,3 +6,4 @@ pub mod Plays
 pub mod Gathered
 pub mod Digests
 pub mod Counting
+pub mod TopCalls

@@ -23,7 +23,7 @@ use Rattle.alone_runner.specs.Run.{reading}
 use Rattle.alone_runner.specs.Words.{Asks, IsNumbered, Names, Say}
 use Rattle.alone_runner.proofs.Commands.{no_uuid}
 use Rattle.alone_runner.specs.declared.command.Command.{Command}
-use Rattle.alone_runner.specs.declared.command.Command.TheVariants.{Serve, Threads, Record, Audit, Compare, Notify, Client, Work}
+use Rattle.alone_runner.specs.declared.command.Command.TheVariants.{Serve, Record, Audit, Compare, Notify, Client, Work}
 use Rattle.alone_runner.specs.declared.content.Content.{Content}
 use Rattle.alone_runner.specs.declared.content.Content.TheVariants as variant
 use Rattle.alone_runner.specs.declared.command.Grammar.{Grammar}
@@ -82,7 +82,6 @@ command_in words =
     if bytes_eq (first_word words) (codes "run") then Serve Text else
     if bytes_eq (first_word words) (codes "run-binary") then Serve Records else
     if bytes_eq (first_word words) (codes "asm") then Serve Assembler else
-    if bytes_eq (first_word words) (codes "threads") then Threads else
     if bytes_eq (first_word words) (codes "record") then Record else
     if bytes_eq (first_word words) (codes "audit") then Audit else
     if bytes_eq (first_word words) (codes "compare") then Compare (subject_in (get_or words 1 [])) else
@@ -102,7 +101,6 @@ command_back : (texts : List (List ℕ)) (command : Command) → Say texts comma
 command_back texts (Serve Text) said = ap command_in said.words
 command_back texts (Serve Records) said = ap command_in said.words
 command_back texts (Serve Assembler) said = ap command_in said.words
-command_back texts Threads said = ap command_in said.words
 command_back texts Record said = ap command_in said.words
 command_back texts Audit said = ap command_in said.words
 command_back texts (Compare subject) said =
@@ -123,18 +121,3 @@ same_command texts one other p q =
 -- words ask for one command
 pub one_command : (words : List (String Global)) (one other : Command) → Asks words one → Asks words other → one ≡ other
 one_command words one other p q = same_command (map string_bytes words) one other p q
-
--- so what the one comes to they come to, whatever they ask for
-pub does_asked : (words : List (String Global)) (Does : Command → Type 0) (one : Command) → Asks words one → Does one
-    → (command : Command) → Asks words command → Does command
-does_asked words Does one asked does command asks = subst Does (one_command words one command asked asks) does
-
--- `threads` asks for nothing else
-pub threads_alone : (texts : List (List ℕ)) (other : Command) → Say texts Threads → Say texts other → other ≡ Threads
-threads_alone texts other p q = same_command texts other Threads q p
-
-pub not_serve : (texts : List (List ℕ)) (grammar : Grammar) → Say texts Threads → Say texts (Serve grammar) → ⊥
-not_serve texts grammar threads said = let same = threads_alone texts (Serve grammar) threads said in absurd cc
-
-pub not_work : (texts : List (List ℕ)) (seed count : ℕ) → Say texts Threads → Say texts (Work seed count) → ⊥
-not_work texts seed count threads said = let same = threads_alone texts (Work seed count) threads said in absurd cc

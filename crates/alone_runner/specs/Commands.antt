@@ -1,4 +1,4 @@
--- What a call comes to, by the command that its words ask for.
+-- What a call comes to, by the command that its words ask for: those of the top call without threads.
 use Rattle.std.specs.Prelude.{◌≡◌, ◌⊎◌, ℕ}
 use Rattle.client_runner.specs.Client.{client_word}
 use Rattle.client_runner.specs.Scripts.{PlaysScripts}
@@ -17,8 +17,10 @@ use Rattle.word_parts.specs.declared.status.Status.TheVariants.{Memory}
 use Rattle.word_parts.specs.declared.status.Status.TheVariants as status
 use Rattle.alone_runner.specs.Plays.{IsSummedUp, Plays, SpellsTraces}
 use Rattle.alone_runner.specs.Run.{WorkStatuses, Worked, WritesSummary, reading}
+use Rattle.alone_runner.specs.TopCall.{Commands}
+use Rattle.alone_runner.specs.Words.{Reads}
 use Rattle.alone_runner.specs.declared.command.Command.{Command}
-use Rattle.alone_runner.specs.declared.command.Command.TheVariants.{Serve, Threads, Record, Audit, Compare, Notify, Client, Work}
+use Rattle.alone_runner.specs.declared.command.Command.TheVariants.{Serve, Record, Audit, Compare, Notify, Client, Work}
 
 -- a made trace is summed up: the summary of its play is written, whole or in part, at each status
 pub record SumsUp (seed count : ℕ) (call : Call) : Type 0 where
@@ -35,8 +37,6 @@ abbrev pub DoesAlone : BuiltIn → Command → Call → Type 0
 DoesAlone built (Serve grammar) call =
     KeepsTo (reading grammar built.natives)
     (λ input c. SpellsTraces grammar → Plays grammar built.natives input c.result c.old c.new) call
--- without threads no call comes to this
-DoesAlone built Threads call = ⊥
 -- the play whose journal was written
 DoesAlone built Record call = KeepsTo (recording built.natives) (λ input c. Records built.natives input c.result c.old c.new) call
 -- the verdict on a journal; each that an input of at most 2^24 bytes spells, with nothing behind it, is answered so where no port fails,
@@ -61,3 +61,7 @@ DoesAlone built Notify call =
 DoesAlone built Client call =
     KeepsTo (client_word built.natives) (λ input c. PlaysScripts built.natives input c.result c.old c.new) call
 DoesAlone built (Work seed count) call = SumsUp seed count call
+
+-- these commands, beside what is built in
+abbrev pub alone_commands : BuiltIn → Commands
+alone_commands built = record { Command = Command; Reads = Reads; Does = DoesAlone built }

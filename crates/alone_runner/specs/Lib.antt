@@ -5,4 +5,5 @@ pub mod Run
 pub mod Plays
 pub mod Counts
 pub mod Digesting
+pub mod TopCall
 pub mod Commands

@@ -6,7 +6,7 @@ use Rattle.compare_model.specs.declared.subject.Subject.{Subject}
 use Rattle.compare_model.specs.declared.subject.Subject.TheVariants.{Session, Group}
 use Rattle.trace_text.specs.Forms.{is_uuid, uuid}
 use Rattle.alone_runner.specs.declared.command.Command.{Command}
-use Rattle.alone_runner.specs.declared.command.Command.TheVariants.{Serve, Threads, Record, Audit, Compare, Notify, Client, Work}
+use Rattle.alone_runner.specs.declared.command.Command.TheVariants.{Serve, Record, Audit, Compare, Notify, Client, Work}
 use Rattle.alone_runner.specs.declared.command.Grammar.{Grammar}
 use Rattle.alone_runner.specs.declared.command.Grammar.TheVariants.{Text, Records, Assembler}
 
@@ -30,7 +30,6 @@ IsNumbered (Group id) = Unit {0}
 -- texts are the words of a command
 abbrev pub AreWordsOf : Command → List (List ℕ) → Type 0
 AreWordsOf (Serve grammar) texts = texts ≡ word_of grammar ∷ []
-AreWordsOf Threads texts = texts ≡ codes "threads" ∷ []
 AreWordsOf Record texts = texts ≡ codes "record" ∷ []
 AreWordsOf Audit texts = texts ≡ codes "audit" ∷ []
 AreWordsOf (Compare subject) texts = (word : List ℕ) × Names subject word × (texts ≡ codes "compare" ∷ word ∷ [])
@@ -41,7 +40,6 @@ AreWordsOf (Work seed count) texts = texts ≡ codes "work" ∷ decimal seed ∷
 -- a seed is below 2^64, and there are at most 65,536 calls
 abbrev pub IsWithin : Command → Type 0
 IsWithin (Serve grammar) = Unit {0}
-IsWithin Threads = Unit {0}
 IsWithin Record = Unit {0}
 IsWithin Audit = Unit {0}
 IsWithin (Compare subject) = IsNumbered subject
@@ -67,14 +65,9 @@ AskNothing words = SayNothing (map string_bytes words)
 -- all commands read an input but that of a made trace
 abbrev pub Reads : Command → Type 0
 Reads (Serve grammar) = Unit {0}
-Reads Threads = Unit {0}
 Reads Record = Unit {0}
 Reads Audit = Unit {0}
 Reads (Compare subject) = Unit {0}
 Reads Notify = Unit {0}
 Reads Client = Unit {0}
 Reads (Work seed count) = ⊥
-
--- words ask for one of these
-abbrev pub AskToRead : List (String Global) → Type 0
-AskToRead words = (command : Command) × Reads command × Asks words command

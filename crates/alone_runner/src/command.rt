@@ -1,10 +1,9 @@
 //! What the words ask for.
 
-ghost use Rattle.std.specs.Prelude.{◌≡◌, ◌↔◌, ℕ, ◌<◌, ◌^◌, [], ◌∷◌, IfSome, IsNone, IsTrue};
+ghost use Rattle.std.specs.Prelude.{◌≡◌, ℕ, ◌<◌, ◌^◌, [], ◌∷◌, IfSome, IsNone};
 ghost use Rattle.std.specs.Fmt.{decimal};
 ghost use Rattle.compare_model.specs.declared.subject.Subject.{Subject as AnySubject};
 ghost use Rattle.alone_runner.specs.Words.{AskNothing, Asks, IsNumbered, Names, Say, SayNothing};
-ghost use Rattle.alone_runner.specs.declared.command.Command.TheVariants.{Threads};
 
 use itoa::Buffer;
 use journal_runner::Subject;
@@ -27,8 +26,6 @@ pub enum Grammar {
 pub enum Command {
     /// The input is read in this grammar, and what it spells is played or printed.
     Serve(Grammar),
-    /// The input is read as text, and each processor of the trace that it spells plays its items in a thread of its own.
-    Threads,
     /// The input is read as text, the trace that it spells is played, and the journal of its play is written.
     Record,
     /// The input is read as the bytes of a journal, and the verdict on it is written.
@@ -67,7 +64,6 @@ fn command_named(word: &str) -> Option<Command>
     match word {
         "run" => Some(Command::Serve(Grammar::Text)),
         "run-binary" => Some(Command::Serve(Grammar::Records)),
-        "threads" => Some(Command::Threads),
         "asm" => Some(Command::Serve(Grammar::Assembler)),
         "record" => Some(Command::Record),
         "audit" => Some(Command::Audit),
@@ -133,23 +129,5 @@ pub fn command_of(words: &[String]) -> Option<Command>
         [word, subject] => compare_of(word.as_str(), subject.as_str()),
         [word, seed, count] => work_of(word.as_str(), seed.as_str(), count.as_str()),
         _ => None,
-    }
-}
-
-/// Whether a word is `threads`.
-#[tactic(auto, using(crate::proofs::Commands::is_threads))]
-fn is_threads(word: &str) -> bool
-    ensures { IsTrue result ↔ Say (word.now ∷ []) Threads }
-{
-    word == "threads"
-}
-
-/// Whether these words are the one word `threads`.
-pub fn asks_threads(words: &[String]) -> bool
-    ensures { IsTrue result ↔ Asks words.now Threads }
-{
-    match words {
-        [word] => is_threads(word.as_str()),
-        _ => false,
     }
 }

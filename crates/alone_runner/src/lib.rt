@@ -17,7 +17,7 @@ mod summary;
 mod top_call;
 mod work;
 
-pub use command::{Grammar, asks_threads};
+pub use command::Grammar;
 pub use content::Content;
 pub use top_call::run_alone;
 pub use word_parts::{LONGEST_INPUT, Status};

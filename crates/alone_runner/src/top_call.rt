@@ -1,16 +1,14 @@
 //! The top call without threads.
 
-ghost use Rattle.std.specs.Prelude.{◌≡◌, ◌≢◌, ℕ, ◌≤◌, ◌+◌, ◌^◌, []};
-ghost use Rattle.ports.specs.Port.{Appends, Rose};
-ghost use Rattle.word_parts.specs.Answer.{Writes};
+ghost use Rattle.std.specs.Prelude.{◌≡◌, ◌≤◌, ℕ};
 ghost use Rattle.word_parts.specs.BuiltIn.{built_in};
 ghost use Rattle.word_parts.specs.Faults.{TellsFaults};
-ghost use Rattle.word_parts.specs.Input.{TakesAtMost};
-ghost use Rattle.alone_runner.specs.Commands.{DoesAlone};
-ghost use Rattle.alone_runner.specs.Run.{Worked, usage_line};
-ghost use Rattle.alone_runner.specs.Words.{AskNothing, AskToRead, Asks, IsWithin, Reads};
+ghost use Rattle.alone_runner.specs.Commands.{alone_commands};
+ghost use Rattle.alone_runner.specs.Run.{Worked};
+ghost use Rattle.alone_runner.specs.TopCall.{IsAnswered};
+ghost use Rattle.alone_runner.specs.Words.{Asks, IsWithin, Reads};
 ghost use Rattle.alone_runner.specs.declared.command.Command.{Command as AnyCommand};
-ghost use Rattle.alone_runner.specs.declared.command.Command.TheVariants.{Threads, Work};
+ghost use Rattle.alone_runner.specs.declared.command.Command.TheVariants.{Work};
 
 use crate::command::{Command, command_of};
 use crate::work::summary;
@@ -45,9 +43,8 @@ fn run_command<S: Source, K: Sink>(
     out: &mut K,
     natives: &Natives,
 ) -> Status
-    requires alone { command ≢ Threads }
-    requires within { IsWithin command }
-    ensures does { DoesAlone (built_in natives.now) command (record {
+    requires { IsWithin command }
+    ensures answered { IsAnswered (alone_commands (built_in natives.now)) (λ (asked : AnyCommand). asked ≡ command) (record {
       result = result;
       told = S.left input.old;
       left = S.left input.new;
@@ -59,16 +56,9 @@ fn run_command<S: Source, K: Sink>(
       sink_new = K.faults out.new;
     }) }
     ensures untouched { (Reads command → ⊥) → input.new ≡ input.old }
-    ensures read_fault { result ≡ Status.ReadFault →
-        Reads command × Rose (S.faults input.old) (S.faults input.new) × Appends (K.held out.old) (K.held out.new) [] }
-    ensures faults { TellsFaults result (K.faults out.old) (K.faults out.new) }
-    ensures taken { TakesAtMost (2 ^ 24 + 1) (S.left input.old) (S.left input.new) }
-    ensures input_count { S.faults input.old ≤ S.faults input.new }
-    ensures input_stays { result ≢ Status.ReadFault → S.faults input.new ≡ S.faults input.old }
 {
     match command {
         Command::Serve(grammar) => run_word(alloc, grammar, input, out, natives),
-        Command::Threads => unreachable!(),
         Command::Record => run_word(alloc, Record, input, out, natives),
         Command::Audit => run_word(alloc, Audit, input, out, natives),
         Command::Compare { subject } => run_word(alloc, Compare { subject }, input, out, natives),
@@ -78,14 +68,15 @@ fn run_command<S: Source, K: Sink>(
     }
 }
 
-/// Does what the words ask for, but for `threads`. `run` reads a trace as text from the input and plays it on one core, beside
+/// Does what the words ask for. `run` reads a trace as text from the input and plays it on one core, beside
 /// the applications that are built in, `run-binary` reads it as records, and `asm` reads a text of the assembler and prints
 /// its image in hexadecimal. `record` reads a trace as text, plays it, and writes the bytes of its journal; `audit` reads these and
 /// writes the verdict on them; `compare ID` reads the bytes of two journals and writes what they show of a session, and
 /// `compare UUID` what they show of the sessions of an application that share its instance. `notify` reads a trace with signals as
 /// text and plays it beside the drivers that are built in. `client` reads a client's script as text, makes its calls on one core,
 /// and prints what each comes to. `work SEED COUNT` reads nothing: it plays the trace that the seed makes with so many calls,
-/// without built-in applications, and prints a line that sums it up. Any other words are answered with the usage line.
+/// without built-in applications, and prints a line that sums it up. Any other words are answered with the usage line, and so is
+/// `threads`.
 ///
 /// The words are tested first, then the input is read to its end, then its length, its grammar and the number of its
 /// SMC items, of a script that of its calls, are tested, then it is played; the first answer met ends the call. The lines of a
@@ -98,15 +89,7 @@ pub fn run_alone<S: Source, K: Sink>(
     out: &mut K,
     natives: &Natives,
 ) -> Status
-    requires alone { Asks words.now Threads → ⊥ }
-    // ---- The words.
-    ensures usage { result ≡ Status.Usage →
-        AskNothing words.now × Appends (K.held out.old) (K.held out.new) usage_line }
-    ensures other_words { AskNothing words.now →
-        Writes Status.Usage usage_line result (K.held out.old) (K.held out.new) × (S.left input.new ≡ S.left input.old) }
-
-    // ---- What each command comes to.
-    ensures does { (command : AnyCommand) → Asks words.now command → DoesAlone (built_in natives.now) command (record {
+    ensures answered { IsAnswered (alone_commands (built_in natives.now)) (Asks words.now) (record {
       result = result;
       told = S.left input.old;
       left = S.left input.new;
@@ -119,18 +102,6 @@ pub fn run_alone<S: Source, K: Sink>(
     }) }
     // For a made trace nothing is read.
     ensures untouched { (seed count : ℕ) → Asks words.now (Work seed count) → input.new ≡ input.old }
-
-    // ---- Faults of the ports.
-    ensures read_fault { result ≡ Status.ReadFault → AskToRead words.now
-        × Rose (S.faults input.old) (S.faults input.new) × Appends (K.held out.old) (K.held out.new) [] }
-    ensures write_fault { result ≡ Status.WriteFault → Rose (K.faults out.old) (K.faults out.new) }
-
-    // ---- Reading ends, and counts of faults never fall.
-    ensures taken { TakesAtMost (2 ^ 24 + 1) (S.left input.old) (S.left input.new) }
-    ensures input_count { S.faults input.old ≤ S.faults input.new }
-    ensures out_count { K.faults out.old ≤ K.faults out.new }
-    ensures input_stays { result ≢ Status.ReadFault → S.faults input.new ≡ S.faults input.old }
-    ensures out_stays { result ≢ Status.WriteFault → K.faults out.new ≡ K.faults out.old }
 {
     match command_of(words) {
         Some(command) => run_command(alloc, command, input, out, natives),

@@ -1,31 +1,27 @@
--- From the clauses of the top call to what a call over memory comes to.
-use Rattle.std.proofs.Common.{◌≡◌, ℕ, inl, inr, Bool, false, List, [], Option, Some, None, refl, sym, subst, arith}
-use Rattle.std.specs.Prelude.{◌↔◌, IsTrue}
+-- From what the top call promises to what a call over memory comes to.
+use Rattle.std.proofs.Common.{◌≡◌, ℕ, inl, inr, List, [], Option, Some, None, refl, sym, subst, arith}
 use Rattle.client_runner.specs.Client.{client_word}
 use Rattle.compare_model.specs.declared.subject.Subject.{Subject}
-use Rattle.ports.specs.Port.{Appends, Rose}
+use Rattle.ports.specs.Port.{Rose}
 use Rattle.journal_runner.specs.Auditing.{auditing}
 use Rattle.journal_runner.specs.Audits.{Audits}
 use Rattle.journal_runner.specs.Compares.{Compares}
 use Rattle.journal_runner.specs.Comparing.{comparing}
 use Rattle.journal_runner.specs.Recording.{recording}
 use Rattle.notify_runner.specs.Run.{notifying}
-use Rattle.alone_runner.proofs.Readings.{not_serve, not_work, threads_alone}
 use Rattle.alone_runner.proofs.Running.{worked-statuses}
-use Rattle.alone_runner.specs.Commands.{DoesAlone}
+use Rattle.alone_runner.specs.Commands.{alone_commands}
 use Rattle.alone_runner.specs.Run.{reading, usage_line}
+use Rattle.alone_runner.specs.TopCall.{IsAnswered}
 use Rattle.word_parts.specs.Keeping.{Keeps}
 use Rattle.word_parts.specs.Word.{Word}
-use Rattle.word_parts.specs.Answer.{Writes}
-use Rattle.word_parts.specs.BuiltIn.{BuiltIn}
 use Rattle.word_parts.specs.Call.{Call}
-use Rattle.alone_runner.specs.Words.{Say, SayNothing}
-use Rattle.alone_runner.specs.declared.command.Command.{Command}
-use Rattle.alone_runner.specs.declared.command.Command.TheVariants.{Audit, Client, Compare, Notify, Record, Serve, Threads, Work}
+use Rattle.alone_runner.specs.Words.{Say}
+use Rattle.alone_runner.specs.declared.command.Command.TheVariants.{Audit, Client, Compare, Notify, Record, Serve, Work}
 use Rattle.word_parts.specs.declared.status.Status.{Status}
-use Rattle.word_parts.specs.declared.status.Status.TheVariants.{Memory, ReadFault, Usage, WriteFault}
+use Rattle.word_parts.specs.declared.status.Status.TheVariants.{Memory}
 use Rattle.native_tas.specs.Program.{program_drivers, program_entries}
-use Rattle.core_c.specs.Running.{AskNothing, Drivers, IsRun, Native}
+use Rattle.core_c.specs.Running.{Drivers, IsRun, Native}
 
 -- no fault is counted
 pub quiet : Rose 0 0 → ⊥
@@ -44,15 +40,6 @@ memory_call input left result held output = record {
   sink_old = 0;
   sink_new = 0;
 }
-
--- the clauses of the top call without threads
-pub record Clauses (built : BuiltIn) (texts : List (List ℕ)) (call : Call) : Type 0 where
-  pub alone : Say texts Threads → ⊥
-  pub usage : call.result ≡ Usage → SayNothing texts × Appends call.old call.new usage_line
-  pub other_words : SayNothing texts → Writes Usage usage_line call.result call.old call.new
-  pub does : (command : Command) → Say texts command → DoesAlone built command call
-  pub reads : call.result ≡ ReadFault → Rose call.source_old call.source_new
-  pub writes : call.result ≡ WriteFault → Rose call.sink_old call.sink_new
 
 -- no port has failed
 keeps_quiet : (word : Word) (input : List ℕ) (left : Option (List ℕ)) (result : Status) (old new : Option (List ℕ))
@@ -82,11 +69,11 @@ compares_quiet natives subject input result old new c = record {
 -- where nothing was held before
 pub of_clauses : (natives : List Native) (drivers : Drivers) (texts : List (List ℕ)) (input : List ℕ) (left : Option (List ℕ))
     (result : Status) (output : List ℕ)
-    → Clauses (record { natives = natives; drivers = drivers }) texts (memory_call input left result [] output)
+    → IsAnswered (alone_commands (record { natives = natives; drivers = drivers })) (Say texts) (memory_call input left result [] output)
     → IsRun natives drivers texts input result output
 of_clauses natives drivers texts input left result output c = record {
-  usage = λ e. (inl (c.usage e).0, (c.usage e).1);
-  other_words = other;
+  usage = c.usage;
+  other_words = λ nothing. (c.other_words nothing).0;
   serves = λ grammar said. record {
     left = left;
     keeps = keeps_quiet (reading grammar natives) input left result (Some []) (Some output) (c.does (Serve grammar) said).0;
@@ -123,47 +110,8 @@ of_clauses natives drivers texts input left result output c = record {
     plays = (c.does (Work seed count) said).plays;
     complete = (c.does (Work seed count) said).complete quiet;
   };
-  reads = λ e. quiet (c.reads e);
-  writes = λ e. quiet (c.writes e);
-}
-  where
-    other : AskNothing texts → Writes Usage usage_line result (Some []) (Some output)
-    other (inl nothing) = c.other_words nothing
-    other (inr threads) = absurd (c.alone threads)
-
--- texts of which it was told that they don't say `threads`
-pub not_threads : (texts : List (List ℕ)) (told : Bool) → (IsTrue told ↔ Say texts Threads) → told ≡ false
-    → Say texts Threads → ⊥
-not_threads texts told says differs said = let yes = says.1 said in absurd cc
-
--- no words ask for nothing
-pub no_words : SayNothing []
-no_words (Serve grammar) said = let e = said.words in absurd cc
-no_words Threads said = let e = said.words in absurd cc
-no_words Record said = let e = said.words in absurd cc
-no_words Audit said = let e = said.words in absurd cc
-no_words (Compare subject) said = let e = said.words.2 in absurd cc
-no_words Notify said = let e = said.words in absurd cc
-no_words Client said = let e = said.words in absurd cc
-no_words (Work seed count) said = let e = said.words in absurd cc
-
--- the word `threads` is answered with the usage line
-pub of_threads : (natives : List Native) (drivers : Drivers) (texts : List (List ℕ)) (input : List ℕ) (result : Status) (output : List ℕ)
-    → Say texts Threads → Writes Usage usage_line result (Some []) (Some output)
-    → (result ≡ Usage → output ≡ usage_line) → (result ≡ ReadFault → ⊥) → (result ≡ WriteFault → ⊥)
-    → IsRun natives drivers texts input result output
-of_threads natives drivers texts input result output threads written usage reads writes = record {
-  usage = λ e. (inr threads, usage e);
-  other_words = λ nothing. written;
-  serves = λ grammar said. absurd (not_serve texts grammar threads said);
-  records = λ said. let same = threads_alone texts Record threads said in absurd cc;
-  audits = λ said. let same = threads_alone texts Audit threads said in absurd cc;
-  compares = λ subject said. let same = threads_alone texts (Compare subject) threads said in absurd cc;
-  notifies = λ said. let same = threads_alone texts Notify threads said in absurd cc;
-  plays_scripts = λ said. let same = threads_alone texts Client threads said in absurd cc;
-  works = λ seed count said. absurd (not_work texts seed count threads said);
-  reads = reads;
-  writes = writes;
+  reads = λ e. quiet (c.read_fault e).1;
+  writes = λ e. quiet (c.write_fault e);
 }
 
 -- want of memory before anything was put

@@ -1,5 +1,5 @@
 -- What a call over bytes in memory comes to: it is the top call, whose source and sink count no fault.
-use Rattle.std.specs.Prelude.{◌≡◌, ◌≢◌, ℕ, ◌⊎◌, List, [], ◌∷◌, Option, Some}
+use Rattle.std.specs.Prelude.{◌≡◌, ◌≢◌, ℕ, ◌⊎◌, List, [], Option, Some}
 use Rattle.client_runner.specs.Client.{client_word}
 use Rattle.client_runner.specs.Scripts.{PlaysScripts}
 use Rattle.compare_model.specs.declared.subject.Subject.{Subject}
@@ -18,7 +18,7 @@ use Rattle.alone_runner.specs.Run.{WorkStatuses, Worked, WritesSummary, reading,
 use Rattle.word_parts.specs.Keeping.{Keeps}
 use Rattle.word_parts.specs.Answer.{Writes}
 use Rattle.alone_runner.specs.Words.{Say, SayNothing}
-use Rattle.alone_runner.specs.declared.command.Command.TheVariants.{Audit, Client, Compare, Notify, Record, Serve, Threads, Work}
+use Rattle.alone_runner.specs.declared.command.Command.TheVariants.{Audit, Client, Compare, Notify, Record, Serve, Work}
 use Rattle.alone_runner.specs.declared.command.Grammar.{Grammar}
 use Rattle.word_parts.specs.declared.status.Status.{Status}
 use Rattle.word_parts.specs.declared.status.Status.TheVariants.{Memory, ReadFault, Usage, WriteFault}
@@ -78,15 +78,12 @@ pub record HasPlayedScript (natives : List Native) (input : List ℕ) (result : 
   pub keeps : Keeps (client_word natives) input left result (Some []) (Some output) (Unit {0})
   pub plays : PlaysScripts natives input result (Some []) (Some output)
 
--- no command is asked for that is served here: none at all, or `threads`, since no thread is started
-abbrev pub AskNothing : List (List ℕ) → Type 0
-AskNothing texts = SayNothing texts ⊎ Say texts Threads
-
--- the top call of these words over this input ended with this status, and put this output
+-- the top call of these words over this input ended with this status, and put this output. `threads` says no command, since no thread is
+-- started
 pub record IsRun (natives : List Native) (drivers : Drivers) (texts : List (List ℕ)) (input : List ℕ) (result : Status)
     (output : List ℕ) : Type 0 where
-  pub usage : result ≡ Usage → AskNothing texts × (output ≡ usage_line)
-  pub other_words : AskNothing texts → Writes Usage usage_line result (Some []) (Some output)
+  pub usage : result ≡ Usage → SayNothing texts × (output ≡ usage_line)
+  pub other_words : SayNothing texts → Writes Usage usage_line result (Some []) (Some output)
   pub serves : (grammar : Grammar) → Say texts (Serve grammar) → Serves natives grammar input result output
   pub records : Say texts Record → HasRecorded natives input result output
   pub audits : Say texts Audit → HasAudited natives input result output

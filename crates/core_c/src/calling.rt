@@ -1,16 +1,14 @@
 //! The top call over bytes in memory.
-ghost use Rattle.std.specs.Prelude.{◌≡◌, ◌≢◌, ◌++◌, [], Some, map, string_bytes};
+ghost use Rattle.std.specs.Prelude.{◌≡◌, [], map, string_bytes};
 ghost use Rattle.native_tas.specs.Table.{drivers, entries};
 ghost use Rattle.native_tas.specs.Program.{program_drivers, program_entries};
 ghost use Rattle.core_c.specs.Running.{IsRun};
 ghost use Rattle.core_c.specs.Words.{texts_in};
-ghost use Rattle.alone_runner.specs.Run.{usage_line};
-ghost use Rattle.word_parts.specs.Answer.{Writes};
 
 use crate::growing_sink::GrowingSink;
 use crate::slice_source::SliceSource;
 use crate::words::words_in;
-use alone_runner::{Status, asks_threads, run_alone};
+use alone_runner::{Status, run_alone};
 use native_tas::{Natives, program_natives};
 use std::alloc::Global;
 
@@ -19,21 +17,6 @@ use std::alloc::Global;
 pub struct Outcome {
     pub status: Status,
     pub output: Vec<u8>,
-}
-
-/// Answers with the usage line.
-fn tell_usage(
-    alloc: Global,
-    input: &mut SliceSource<'_>,
-    out: &mut GrowingSink,
-    natives: &Natives,
-) -> Status
-    ensures line { Writes Status.Usage usage_line result (Some out.old.held.items) (Some out.new.held.items) }
-    ensures usage { result ≡ Status.Usage → out.new.held.items ≡ out.old.held.items ++ usage_line }
-    ensures reads { result ≢ Status.ReadFault }
-    ensures writes { result ≢ Status.WriteFault }
-{
-    run_alone(alloc, &[], input, out, natives)
 }
 
 /// The top call, beside these built-in applications. No thread is started, so the word that asks for some is answered as words
@@ -48,11 +31,7 @@ fn run_beside(
     requires { out.old.held.items ≡ [] }
     ensures { IsRun (entries natives.now) (drivers natives.now) (map string_bytes words.now) input.old.left.now result out.new.held.items }
 {
-    if asks_threads(words) {
-        tell_usage(alloc, input, out, natives)
-    } else {
-        run_alone(alloc, words, input, out, natives)
-    }
+    run_alone(alloc, words, input, out, natives)
 }
 
 /// The top call, beside the application and the driver that are built into the program.

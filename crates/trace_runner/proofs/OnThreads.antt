@@ -23,16 +23,13 @@ use Rattle.trace_text.specs.Sound.{IsSound}
 use Rattle.trace_text.specs.declared.item.Item.{Item}
 use Rattle.trace_text.specs.declared.trace.Fill.{Fill}
 use Rattle.trace_text.specs.declared.trace.Trace.{Trace}
-use Rattle.alone_runner.specs.Commands.{DoesAlone}
 use Rattle.alone_runner.specs.Content.{Spells}
 use Rattle.alone_runner.specs.Plays.{IsUnplayed}
 use Rattle.alone_runner.specs.Run.{WasRead, reading}
 use Rattle.word_parts.specs.Word.{CanBeRefused, IsBad, IsRefusedWhole, IsUnservedAs, RanAs}
 use Rattle.trace_player.specs.Starting.{trace_of, uuids_of}
-use Rattle.trace_runner.specs.Commands.{Does, DoesOnThreads}
+use Rattle.trace_runner.specs.Commands.{DoesOnThreads}
 use Rattle.trace_runner.specs.Threads.{AnsweredOnThreads, AreBlocks, BlocksOf, CanBePlayedOnThreads, IsPlayedInOrder, IsPlayedOnThreads, IsServedByThreads, IsTrueInOrder, PrintsBlocks, RanOnThreads, ThreadStatuses, WritesPartOnThreads, status_where}
-use Rattle.alone_runner.specs.declared.command.Command.{Command}
-use Rattle.alone_runner.specs.declared.command.Command.TheVariants.{Serve, Threads, Record, Audit, Compare, Notify, Client, Work}
 use Rattle.alone_runner.specs.declared.content.Content.{Content}
 use Rattle.alone_runner.specs.declared.content.Content.TheVariants as content
 use Rattle.alone_runner.specs.declared.command.Grammar.TheVariants.{Text}
@@ -42,7 +39,6 @@ use Rattle.word_parts.specs.declared.status.Status.TheVariants as status
 use Rattle.play_model.proofs.TrueToKernel.{exits_in, refused_in}
 use Rattle.alone_runner.proofs.Readings.{one_meaning}
 use Rattle.word_parts.specs.Answer.{Writes}
-use Rattle.word_parts.specs.BuiltIn.{BuiltIn}
 use Rattle.word_parts.specs.Call.{Call}
 use Rattle.word_parts.specs.Input.{IsReadWhole, IsTooLong}
 use Rattle.word_parts.specs.Limits.{HasTooMany}
@@ -434,14 +430,3 @@ does-on-threads natives call read write memory ran = record {
   refuses = threads-refused natives call.told call.left call.result call.old call.new call.source_old call.source_new
       call.sink_old call.sink_new read write ran;
 }
-
--- what is answered without threads is answered so
-pub does-alone : (built : BuiltIn) (command : Command) (call : Call) → DoesAlone built command call → Does built command call
-does-alone built (Serve grammar) call does = does
-does-alone built Threads call never = absurd never
-does-alone built Record call does = does
-does-alone built Audit call does = does
-does-alone built (Compare subject) call does = does
-does-alone built Notify call does = does
-does-alone built Client call does = does
-does-alone built (Work seed count) call does = does
