@@ -1,4 +1,9 @@
 //! A value on the heap, which contracts see as the value itself, so that a pointer is moved in place of a large value.
+//!
+//! # What is proved
+//!
+//! What `Boxed::new` gives is the value, `get` lends it and `into_inner` gives it back; `new` answers want of memory.
+//! That the value lies on the heap is no clause. It has no tests of its own: the readers of logs use it.
 #![tactic(auto)]
 
 ghost use Rattle.std.specs.Prelude.{◌≡◌, IfOk};

@@ -13,6 +13,18 @@
 //! the functions of files and their parameters are this project's own.
 //!
 //! Only `take_reply` takes memory, for its list of reads.
+//!
+//! # What is proved
+//!
+//! - `FileName::new` makes a name exactly of ASCII bytes of at most 161, and names each refusal; `bytes` gives them
+//!   back.
+//! - `put_request` makes the table's writes in their order, and nothing else; they lie in the bytes of the argument and
+//!   of the buffer (`requests_stay_in_their_places`). `put_request_at` makes those of a place, and `RequestPlace::of`
+//!   is the definition's place.
+//! - `read_reply` gives what the request's reader makes of the lane, which reads each number once and in its order;
+//!   `take_reply` fills in a reply so, lists these reads, and leaves the list as it was at want of memory. What comes
+//!   of any reads is a reply to the request (`readings_are_replies`), and each reply comes of some
+//!   (`replies_are_read`).
 #![tactic(auto)]
 
 pub mod commands;

@@ -3,6 +3,11 @@
 //! A processor of the normal world calls the core with eight registers of 32 bits, a0 to a7, and is
 //! answered in the same eight. The function ids, return codes and capability bits are those of
 //! `optee_smc.h`; a constant's comment has its name there.
+//!
+//! # What is proved
+//!
+//! `decode_call` is the table, and Unknown comes exactly where the id stands in no row; `encode_answer` and
+//! `fast_answer` are the tables of answers.
 #![tactic(auto)]
 
 mod answer;

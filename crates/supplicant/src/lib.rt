@@ -9,6 +9,16 @@
 //! to answer.
 //!
 //! Only the supplicant takes memory.
+//!
+//! # What is proved
+//!
+//! `answer` gives the reply of the definition to each request with its payload, and leaves the files, the descriptors
+//! and the count of times that the definition leaves; at want of memory they are as before. A reply is one to its
+//! request (`kind`), a descriptor that is given was free (`free`), and a refusal changes nothing. `read_request` gives
+//! the request that the message of a world holds, with its payload, and None exactly where it holds none; `put_reply`
+//! and `put_refusal` make the writes of the definition, and no SMC. What `put_request` of `rpc_msgs` wrote is held
+//! (`requests_are_held`), and what `read_reply` reads of a reply that was written is that reply (`replies_are_read`).
+//! `put_reply` asks for a reply to that request.
 #![tactic(auto)]
 
 mod by_descriptor;

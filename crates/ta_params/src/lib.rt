@@ -3,6 +3,11 @@
 //!
 //! Names and numbers are those of the GlobalPlatform TEE Internal Core API, unless a type says that it is
 //! this project's own.
+//!
+//! # What is proved
+//!
+//! `type_word` packs the four types, the first lowest; a buffer is the list of its bytes; a copy of a buffer or of
+//! parameters equals them; each code and origin has the number of the API (`codes_of_the_api`).
 #![tactic(auto)]
 
 mod buf;

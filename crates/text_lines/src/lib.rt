@@ -1,4 +1,10 @@
 //! Lines of a text, and the words of a line, which the text form of traces and the language of the assembler share.
+//!
+//! # What is proved
+//!
+//! `split_line` cuts a text at its first line feed, and answers None exactly where there is none; `Words` is the list
+//! of the words that are left of a line: each call says what it takes and what is left then, also where there is no
+//! such word.
 #![tactic(auto)]
 
 mod examples;
