@@ -1,6 +1,10 @@
 //! What happened at the border of the core, event by event, in the order in which it happened.
 //!
 //! Room for events is reserved ahead, so that what has begun can be written down without memory.
+//!
+//! # What is proved
+//!
+//! The journal is a list of events; `push` appends into reserved room; `copied` is the bytes of all reads.
 #![tactic(auto)]
 
 mod event;

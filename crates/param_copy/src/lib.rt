@@ -7,6 +7,15 @@
 //!
 //! The definitions follow `optee_msg.h`, and the parameters are those of the GlobalPlatform TEE Internal
 //! Core API.
+//!
+//! # What is proved
+//!
+//! - `copy_in` gives the definition's copies, places and cookies, or its first fault, or want of memory, with the list
+//!   of its reads, each of which has the lane's bytes, and which alone decide; `take_params` lists them also where it
+//!   finds a fault, and leaves the list as it was at want of memory.
+//! - `copy_out` makes the definition's writes in their order, and nothing else.
+//! - Pieces lie in RAM, and their lengths sum to the size (`pieces_have_the_size`); what is written back lies in RAM
+//!   (`writes_back_lie_in_ram`).
 #![tactic(auto)]
 
 mod copied;

@@ -4,6 +4,11 @@
 //!
 //! A page list is read before a buffer is registered, so nothing here touches RAM. Once a registry is made
 //! only `resolve` takes memory.
+//!
+//! # What is proved
+//!
+//! A finite map from cookies to buffers, with pins; each answer exactly where it is named, the whole map said after
+//! every call; every piece of `resolve` lies in RAM, and their lengths sum to the size.
 #![tactic(auto)]
 
 mod fault;

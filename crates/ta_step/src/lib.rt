@@ -1,6 +1,24 @@
 //! The machine that runs the code of trusted applications, one instruction at a time.
 //!
 //! The machine, its instructions and its system calls are this project's own.
+//!
+//! # What is proved
+//!
+//! A machine is a record.
+//! - `run` is the definition's steps, repeated up to the first stop or the end of the grant, over any memory that is a
+//!   list of bytes: the stop, the steps used and the machine that is left. Each machine whose image is valid has
+//!   exactly one outcome at each step (`one_outcome`).
+//! - Two grants are one of their sum (`sum_of_grants`); a run uses at most its grant, and at least one step of some
+//!   (`steps_of_runs`).
+//! - A machine that stops with a request waits with it, and else with none (`asked_of_runs`), and the bytes that the
+//!   request names are all in one range (`requests_name_ranges`).
+//! - `answer` sets the registers that the request gives and no others, and ends the wait. A run leaves as many
+//!   registers and bytes, the login and the cancellation flag (`shape_of_runs`); the ranges of addresses begin at
+//!   multiples of 10000000, hexadecimal (`ranges_begin`).
+//! - Parts of a memory move at once (`read` and `write` of `TaMemory`, and of a machine within one range): what is read
+//!   is that part of the list of bytes, and a write changes it alone; `part` lends bytes from an address on where they
+//!   stand, at least one of them.
+//! - `parts` runs written cases of each operation and system call.
 #![tactic(auto)]
 
 mod access;

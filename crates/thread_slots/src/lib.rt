@@ -2,6 +2,12 @@
 //!
 //! `optee_smc.h` calls them threads. A caller learns the number of its slot when its call is suspended,
 //! and resumes the call by that number.
+//!
+//! # What is proved
+//!
+//! `enter` takes the lowest free slot, and answers None exactly where none is free; `resume` hands out the value of a
+//! suspended slot to its own client, and else names the refusal, in its order, and changes nothing; `suspended_call`
+//! lends it by the same refusals; the whole list of slots is said after every call.
 #![tactic(auto)]
 
 mod bad_resume;
