@@ -5,6 +5,20 @@
 //! it has asked for. What stands in a call is all that is left of it, so another processor can go on with it.
 //!
 //! Nothing here takes memory, and nothing reads or writes RAM.
+//!
+//! # What is proved
+//!
+//! - `advance` is a grant of steps to the job that the call stands for: what the call then is stands for the job after
+//!   them, or its answer is the job's stop, with what that leaves, and its count of steps rises by those used; a call
+//!   that has asked for something can be answered, and one that has ended or panicked asks for nothing.
+//! - `resume_with` gives the job its answer, as `resume_with_reply` does one that is lent, and the job takes it: it
+//!   goes on, or asks for something else; a buffer is kept, and all else stays. `see_cancel` is the job that has seen
+//!   its cancellation, and `begin` the job at an entry point.
+//! - A call that opens, invokes or closes on its instance, or begins on it later, stands for the job that begins there.
+//!   A call is made, begun and left by `advance` in the shape of its phase (`IsShaped`).
+//! - The instance's memory is never lost: the call or its machine has as many bytes of it as before.
+//! - A call is made with a key, and its job asks for objects under the key that it has: the functions of a call leave
+//!   that.
 #![tactic(auto)]
 
 mod advance;
