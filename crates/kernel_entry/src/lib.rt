@@ -4,6 +4,26 @@
 //! a new call, or a call that is resumed. All memory is taken there. Then the processor is let into the parts of the
 //! core, which takes no memory and can't fail: the plan of a new call is applied to the tables, or a call is handed out
 //! of its slot and resumed. The parts then stand for the kernel after that decision, and the processor carries the call.
+//!
+//! # What is proved
+//!
+//! - `apply` makes of tables and a plan of a new call what the kernel's definition takes the call's slot for, of each
+//!   boot whose key the call's box has: the call is settled, runs, or waits, sessions, instances, pins, waiters and
+//!   registered buffers are the definition's, and the pool keeps having just the free pages. The slot pins the cookie
+//!   that names the argument first, whatever the plan.
+//! - `enter_fixed`, `enter_new` and `enter_resumed` let a processor into the parts of a core, for a fixed answer, a new
+//!   call or one that is resumed: where the parts stood for a kernel they stand for the one after that decision, the
+//!   entry stands behind the events, and the processor carries the call of its slot. What is decided of a call with
+//!   these registers is what the kernel decides, by just the reads that are listed.
+//! - `prepare` takes all memory of an entry, and tells what was decided: the kernel decides just so, by just the reads
+//!   that are listed, and a call that goes on is given just this. The core stays, with more room; or the entry is
+//!   refused as below. `admit` then does that for a processor with these registers, takes no memory and can't fail.
+//! - `enter` is both, the entry of a core: one event more, whose reads have the lane's bytes, and the work of its
+//!   processor; or it is refused, with more bytes read together than the core's terms allow or for want of memory, and
+//!   boot, terms and events are as they were. All memory is taken before anything changes.
+//! - What the parts ask for of legal histories (the slot's call doesn't wait yet, instances have their pages, a new
+//!   instance's number is free, fewer than 80 are kept, a call that waits stands in line) is proved here from
+//!   `kernel_model`'s laws.
 #![tactic(auto)]
 
 mod beginning;

@@ -2,6 +2,23 @@
 //! what is told of it, and what that leaves of the core.
 //!
 //! Each function is named as the definition of the kernel that it computes. Nothing here reads the lane or takes memory.
+//!
+//! # What is proved
+//!
+//! - Where the tables of a core are the kernel's and a call as data stands for its pending call, `after_grant` makes of
+//!   both what the kernel's `after_grant` makes of the call that ran, for each stop; `after_rest` what `progress_in`
+//!   makes of one that asks, waits or has ended. Sessions are settled, removed or kept by kind and result; the instance
+//!   is given back, killed or removed, and its pages go back to the pool, which has just the free ones afterwards; whom
+//!   the call wakes is fixed behind that. They ask for what holds of the kernels of legal histories: the call's session
+//!   and instance are kept, the instance is held, and as many bytes come back as it has pages.
+//! - Of the call that then goes out, `answer_of` gives the kernel's answer, `tell` makes its writes in their order and
+//!   no others, `slot_left` leaves the slot as the kernel's does (suspended with the call, without its buffer where
+//!   that is given back, or free), and `tables_left` drops the pins of a slot that is left free. `tell` asks that the
+//!   places written to lie in RAM and that a request fits its message.
+//! - `leave` is the exit of a core whose processor is inside with its work done (`CanLeave`): its events are one `Exit`
+//!   more, its registers and writes are those of the kernel's exit there, what it was booted with stays (`HasLeft`),
+//!   and it is a core again, so that its parts stand for the kernel behind the exit. All that its parts ask for follows
+//!   from the laws of legal histories. It takes no memory and always answers.
 #![tactic(auto)]
 
 mod going_out;

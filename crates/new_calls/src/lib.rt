@@ -6,6 +6,18 @@
 //! changed here.
 //!
 //! Each function is named as its definition in `kernel_model`, and cites it.
+//!
+//! # What is proved
+//!
+//! - A new call is decided as the kernel's definition decides it: the tests of every call and those of its command come
+//!   over the lane to the answer, or to what the slot is taken for, with just the reads that it lists, or to want of
+//!   memory, of which nothing is said. The slot is the free one that it was offered. `Located` says where the argument
+//!   is, by an address or in registered memory, and the area behind it; nothing of the area is read.
+//! - What a plan may rely on where it is applied is proved with it: the application of the session's instance, room for
+//!   a session or a buffer, pages for an instance, and that each cookie is registered, the one that names its argument
+//!   among them. What a plan changes is `kernel_entry`'s.
+//! - It asks that each instance is of an application of the boot, and that the pool has the free pages, as in the
+//!   kernels of legal histories.
 #![tactic(auto)]
 
 mod argument;
