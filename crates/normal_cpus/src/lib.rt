@@ -6,6 +6,30 @@
 //!
 //! A pass knows the history that it has seen, which is legal from the boot of the core that was shared, and of its own
 //! processor it has all events. So at an exit nothing has to be asked: only others have come and gone since the entry.
+//!
+//! # What is proved
+//!
+//! Over every interleaving of the processors of a core behind the lock. *Legal* means: from the boot of the core that
+//! was shared.
+//! - `share` gives a pass for each processor, in the order of their numbers, which have seen nothing and made nothing,
+//!   or want of memory and the core.
+//! - `enter` makes one entry, under one turn: the pass has then seen a legal history that begins with all that it had
+//!   seen and ends with this entry, whose reads have the lane's bytes; the work shows the call of that history's
+//!   kernel, with none of the granted steps done. All entries of that history have read at most 2^28 bytes together, so
+//!   `Full` comes exactly above, unless memory is wanting first.
+//! - `leave` makes one exit, under one turn, as the last event of such a history, at `exit_at`: registers and writes
+//!   are those of the kernel's exit there. The entry that it ends stands at `entry_at`, and no event of its processor
+//!   between the two. It asks nothing of the core: that the pass's work still fits follows from what the pass has seen.
+//! - Behind each, a refused entry too, the pass has neither a turn nor a ticket; the entries that it has seen have read
+//!   at most 2^28 bytes, and what it has seen holds of its processor just the events that it made, in their order, each
+//!   once. A refused entry makes none; the pass has then seen a legal history that begins with all that it had seen,
+//!   and the numbers of `Full` are the bytes which that history's entries have read, and those which this entry would
+//!   read at its end.
+//! - `close` needs all passes, each once. The core that comes back has the boot of the one that was shared; its events
+//!   are legal, begin with all that each pass has seen, and are of each processor just those that its pass made, and no
+//!   others.
+//! - `works_go_out`: the work of an entry, with its granted steps done, is one that `leave` takes.
+//! - Not proved: that a turn comes, and any order in time between processors beyond what their passes have seen.
 #![tactic(auto)]
 
 mod cpu_answer;
