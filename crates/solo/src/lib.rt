@@ -8,6 +8,22 @@
 //! Memory is taken before anything is changed: at want of memory the machine is as it was.
 //!
 //! What a call does by itself is there for the machine of a group of sessions, too.
+//!
+//! # What is proved
+//!
+//! - `SoloSession::new` makes what stands for a session's machine before its open, of a boot's key and of the
+//!   application that the boot, or the applications built in beside it, has under a UUID; or want of memory.
+//! - `step` gives at each own event that can come the reply of `own_model`'s machine, none where that has none, and
+//!   stands for the machine's next state then, so that the next event can be fed; at want of memory it stands for the
+//!   machine as it was. A job is taken to its stop, however many steps that takes, and to just those that were done
+//!   where a cancellation is seen.
+//! - An event can come where the machine's own `step` is defined and a call that runs and goes out stays below 2^128
+//!   steps, however long its buffers are. A call that comes in has to be among the session's first 2^32, since events
+//!   name calls by numbers of 32 bits: that is a condition, and no want of memory. Nothing else is said of an event
+//!   that can't come.
+//! - `copied_outputs` copies what is told of the parameters of a call that has ended, for `isolation` too.
+//! - That the replies of a session in a history are these, event by event, follows with the law of isolation
+//!   (`own_model`); both are read off a journal by `isolation`. `core_cases` runs it.
 #![tactic(auto)]
 
 mod apps;
