@@ -8,6 +8,20 @@
 //! that of `solo`.
 //!
 //! Memory is taken before anything is changed: at want of memory the machine is as it was.
+//!
+//! # What is proved
+//!
+//! - `GroupSolo::new` makes what stands for a group's machine before a call has come in, of a boot's key and of the
+//!   application that the boot has under a UUID, whose sessions share an instance; or want of memory.
+//! - `step` gives at each event that can come the reply of `group_model`'s machine, none where that has none, and
+//!   stands for the machine's next state then; at want of memory it stands for the machine as it was. A job is taken to
+//!   its stop, however many steps that takes, and to just those that were done where a cancellation is seen.
+//! - An event can come where the machine's own `step` is defined and a call that runs and goes out stays below 2^128
+//!   steps, however long its buffers are. A call that comes in has to be among the group's first 2^32, since events
+//!   name calls by numbers of 32 bits: that is a condition, and no want of memory. Nothing else is said of an event
+//!   that can't come.
+//! - That the replies of a group in a history are these follows with the law of groups (`group_model`); both are read
+//!   off a journal by `instance_groups`. `core_cases` runs it.
 #![tactic(auto)]
 
 mod about;
