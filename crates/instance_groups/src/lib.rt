@@ -7,6 +7,22 @@
 //! `group_log` has what is read off, `notes` what is noted, `arriving` what is seen of an entry and `coming` what is noted of
 //! one, and `going` what is noted of a call that goes out. `group_notes` has the notes as those that `journal_notes` takes,
 //! `log_reader` reads a log event by event, and `group` reads that of a whole journal.
+//!
+//! # What is proved
+//!
+//! Of a legal journal whose entries have read at most 2^28 bytes in all, and each the same byte wherever its reads
+//! share an address:
+//! - `group_events` and `group_replies` are the events and the replies of the group by `group_model`'s definitions,
+//!   whatever the application: none, where the boot has no application of the UUID. `read_group_log` gives both by one
+//!   replay, each event beside its reply, and the application, if there is one (`IsLogOf`).
+//! - Where the application's sessions share an instance, its machine can be fed with what `group_events` gives, one
+//!   event after the other (`feeds`), which is all that `step` of `group_solo` asks; and `group_replies` are what that
+//!   machine answers to these events (`alone`).
+//! - A `LogReader` reads a group's log off any journal, event by event, as that of `isolation` reads a session's.
+//! - The journal is done again as for `isolation`, and of an answer of want of memory the same is said as there:
+//!   numbers aren't wanting, since the entry of each of a group's calls has read the 32 bytes of its argument's head
+//!   (`group_calls_read`), and each session was given by such a call. `core_cases` runs `group_events` and
+//!   `group_replies`, where memory suffices.
 #![tactic(auto)]
 
 mod arriving;

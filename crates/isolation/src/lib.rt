@@ -8,6 +8,33 @@
 //! seen of an entry and `coming` what is noted of one, `leaving` what is told of a call that goes out and `going` what is noted of
 //! that. `session_notes` has the notes as those that `journal_notes` takes, `log_reader` reads a log event by event, and `own`
 //! reads that of a whole journal.
+//!
+//! # What is proved
+//!
+//! Of a legal journal whose entries have read at most 2^28 bytes in all, and each the same byte wherever its reads
+//! share an address:
+//! - `own_events` and `own_replies` are the own events and the own replies of `own_model`'s definitions, whatever the
+//!   session; and of a session that the law of isolation is about the replies are what the machine of one session
+//!   answers to those events. `own_log` gives both by one replay, each event beside its reply, and the session's
+//!   application once its open has come in (`IsLogOf`).
+//! - A `LogReader` reads the log off any journal, event by event, with no more asked than by a `Replay`: it answers
+//!   with what the event adds to the log by the definitions, or that no legal and steady history goes on with it
+//!   (`Reads`), or want of memory. What it has told it doesn't keep: what an event adds doesn't depend on what stands
+//!   in the log (`event_adds`).
+//! - That machine can be fed with what `own_events` gives of such a session, one event after the other: each can come
+//!   behind those before it, a call that comes in is among the session's first 2^32, and one that runs and goes out
+//!   stays below 2^128 steps (`feeds`). That is all that `step` of `solo` asks. So it is since the machine is tied to
+//!   the kernel before each event of the history, and no call does more than a million steps for each.
+//! - The journal is done again on a core of the same boot, over RAM that has what each entry read; what an entry and an
+//!   exit are for the session is read off that core (`journal_notes`).
+//! - What a new call is, whoever's it is, `new_call_on` tells before its entry, by what the kernel decides of it
+//!   (`IsNewCall`): an open of an application, whatever its later tests come to, a call in a session, or neither. A
+//!   group's events are made of it, too.
+//! - Want of memory is left open by the clauses, though only a call for memory, or of a crate below, answers it in the
+//!   bodies. The reads of each entry can be laid into RAM, and a core boots with the journal's boot (`journal_replay`).
+//!   Nor are numbers wanting: the entry of each of a session's calls has read the 32 bytes of its argument's head
+//!   (`own_calls_read`), so that at most 2^23 have come in. `core_cases` runs `own_events` and `own_replies`, where
+//!   memory suffices.
 #![tactic(auto)]
 
 mod calls;

@@ -6,6 +6,16 @@
 //!
 //! `logged` has logs, `notes` what notes can do, `noting` does an event again and notes it, and `reading` reads a log event by
 //! event, or whole.
+//!
+//! # What is proved
+//!
+//! Notes of a type (`EventNotes`) are of somebody, have a log by each history, and say when they are what is noted by
+//! one (`Meaning`). Where they are what is noted by the events that a `Replay` has done, `read` does an event of any
+//! journal again and answers with what it adds to the log, or that no legal and steady history goes on with it
+//! (`Reads`), or want of memory; `read_all` gives the whole log of a journal that begins a legal and steady history, or
+//! tells want of memory. Both ask that the reads of all entries have at most 2^28 bytes. What an entry is for them is
+//! told before it, and noted once it is done. What the notes of a type are by an event is promised by that type's own
+//! methods: `isolation` has a session's and `instance_groups` a group's, and neither does an event again by itself.
 #![tactic(auto)]
 
 mod logged;

@@ -6,6 +6,19 @@
 //! [`read_question`] judges the lines that ask. `specs/` has `Rules`, the rules of a line that asks nothing and what it adds,
 //! `Scene`, which scene stands for which lines, `Statement`, what a line says and how it is judged, `Asking`, and `Sound`, the
 //! limits that lines keep.
+//!
+//! # What is proved
+//!
+//! `read_line` judges a line of a conversation behind all lines before it, of which it is lent a scene alone, so that a
+//! bad line changes nothing: it gives the first rule of a trace with signals, or of `history off`, that the line
+//! breaks, or what the line says, which leads from the lines before it to those with it, unless memory runs out. What
+//! it says stands in its place: a boot is the first of a trace, `history off` stands before it, an application, a fill
+//! and a key behind it and before all items and signals, and an item and a signal behind it. `Scene::take` and
+//! `Scene::forget` give the scene behind what a line says. Lines that keep their rules stay within the limits of a
+//! trace, wherever signals stand, but for processors that may be inside (`lines_stay_sound`). Of twenty-four lines what
+//! they say, or their first fault, is written there, and two scenes. `read_question` tells a line that asks from all
+//! others by its first word, and gives what it asks, or the first rule of a question that it breaks (`IsAsked`), and
+//! never want of memory; 25 lines are examples of it (`questions_asked`).
 #![tactic(auto)]
 
 mod asking;

@@ -6,6 +6,37 @@
 //!
 //! Work for which no thread can be started is done by the caller, under the same promise. Once all passes are back, the core has the
 //! one history of all, of which the parts are one play.
+//!
+//! # What is proved
+//!
+//! `play_on_threads` needs a core with no events that keeps those to come, as many lanes as processors, and that each
+//! processor comes in and goes out by turns. It gives back, or finds no memory:
+//! - the core, with its boot, and the one history of all, which is legal;
+//! - where the core was booted as a trace says, these are its items and each lane has its fills over zeros: the text is
+//!   the blocks of the trace in an order that is that history with refused entries at their places; the play in that
+//!   order has that history; and an entry of it was refused just where that is said.
+//!
+//! One processor's own items, on a core that it shares, are played by `play_cpu`. It needs a pass that has made
+//! nothing, and that the processor comes in and goes out by turns, within the limits of a trace. It gives back
+//! - the pass, which is outside, has the same number, and has seen all that it had seen;
+//! - where all items are done: they are the processor's part of the history that the pass has then seen, and the RAM
+//!   and the block are what that part comes to, each line of an exit with the places of its entry and of itself;
+//! - where an entry was refused: the items before it are the part, the entry is refused at the end of that history, and
+//!   the block ends with `full`, the bytes that all entries of that history have read, and those that this one would
+//!   have read;
+//! - where there was no memory: nothing of RAM and block. What was begun is ended all the same.
+//!
+//! Of the works of all processors of a trace:
+//! - Each processor of a trace within its limits comes in and goes out by turns (`sound_traces_are_in_turn`), as
+//!   `play_cpu` needs.
+//! - How a work has ended by what its pass has seen, not for want of memory, holds of each history that the pass is in,
+//!   as that of a closed core is (`ends_stay`); so do those of all processors, by their numbers (`ends_gather`).
+//! - Where all works have ended over one legal history, whose entries have read at most 2^28 bytes, the blocks of the
+//!   trace in the order of that history, with each refused entry at the end of what its pass had seen, are what they
+//!   have printed, one behind the other (`ends_merge`); so they are on a core that is had back (`ends_are_played`).
+//!
+//! Not proved: that either call ever returns, since a turn may not come, and that memory is found; that any thread is
+//! started, since the caller may do all work.
 #![tactic(auto)]
 
 mod cpu_playing;
