@@ -7,6 +7,18 @@
 //! compares the logs, `apart` says what the two applications alone show, and `illegal` what is told of journals that can't be.
 //! `same_events`, `same_group_events`, `same_inputs`, `same_params` and `same_apps` say when two events, what came with them,
 //! parameters and applications are the same.
+//!
+//! # What is proved
+//!
+//! `compare` gives the answer of `compare_model` on two journals that were read and a session (`IsComparedAs`), and
+//! `compare_groups` that on them and the group of an application, or want of memory: Illegal, Absent, Other, Events or
+//! Same, each where none before it comes. They ask of each journal what `check` of `audit` asks, and nothing of the
+//! session or the UUID. Each journal is done again once, which checks it and reads the log off it, and the first once
+//! more where the second can't be; where a boot has no application of the group's UUID, both are checked. Both logs are
+//! compared as they are read, and only what one log has more than the other is kept (`Compares`). That is proved once,
+//! for whatever reads a log off a journal (`ReadsLog`), as the readers of a session and of a group do. Events,
+//! applications and images are compared field by field, and the functions that do so say that they are the same exactly
+//! where they are equal. At Same the replies are equal in both, by the law of `compare_model` (`same_replies`).
 #![tactic(auto)]
 
 mod apart;

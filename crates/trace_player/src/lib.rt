@@ -6,6 +6,17 @@
 //! answer; or for another answer it is played by `begin_item` up to its `Exit`, which has the kernel's answer and the panic in
 //! which its call has ended, and then the processor is told by `tell`. What is done with the lines, and what is made of a refused
 //! entry, is its caller's.
+//!
+//! # What is proved
+//!
+//! A `Player` is a machine and what each processor was last told. `booted` stands before the first item of a trace on a
+//! core that keeps its events, and `counting` on one that counts them, and both answer nothing but want of memory;
+//! `with_fills` stands so on one of any terms. No call changes these, and `journal` is of a player whose core keeps its
+//! events (`terms_in`); `play_item` makes the play's step of an item, and appends what it prints to the lines that it
+//! is lent, or stops where the play does; where that refuses an entry, the player is as it was. For other answers than
+//! the core's, `begin_item` makes the step up to its exit, and gives that with the core's answer and the panic in which
+//! its call has ended, if it did (`Begins`); then `write` makes the play's write, and `tell` prints what the processor
+//! is told, which the registers of its next entry may name.
 #![tactic(auto)]
 
 mod beginning;
