@@ -19,6 +19,7 @@ import sys
 import tempfile
 
 import conversations
+import crates
 import documented
 import expected
 import packaged  # noqa: F401  (where tulgexar is)
@@ -795,6 +796,23 @@ def check_links(comparison):
         comparison.same(f"formats.md names the {kind} {name}", name in (names if kind == "case" else files), True)
 
 
+def check_crates(comparison):
+    """The floors of crates.txt, each crate behind those that it stands on, are those of the pages; each edit is named."""
+    floors = [(floor.name, list(floor.crates)) for floor in crates.floors()]
+    seen = set()
+    for floor in crates.floors():
+        for crate, below in floor.crates.items():
+            comparison.same(f"crates.txt: {crate} stands on crates behind it", [name for name in below if name not in seen], [])
+            seen.add(crate)
+    architecture, proofs = (shipped.read(shipped.ROOT / "docs" / name) for name in ("architecture.md", "proofs.md"))
+    comparison.same("architecture.md: the drawing", architecture.split("```\n")[1], crates.drawing())
+    comparison.same("architecture.md: the crates", documented.crates_by_floor(architecture, "The crates"), floors)
+    comparison.same("proofs.md: crate by crate", documented.crates_by_floor(proofs, "Crate by crate"), floors)
+    named = set(re.findall("`([a-z0-9_]+)`", proofs))
+    edits = [path.stem for path in sorted(shipped.CRATES.glob("*/must-fail/*.edit"))]
+    comparison.same("proofs.md: edits that it doesn't name", [edit for edit in edits if edit not in named], [])
+
+
 def check_words(comparison):
     """Other words end with the usage line and 2."""
     for name, rows in expected.BAD_WORDS.items():
@@ -832,6 +850,7 @@ CHECKS = [
     check_conversations,
     check_areas,
     check_links,
+    check_crates,
     check_words,
 ]
 

@@ -36,6 +36,15 @@ def section(text, heading):
     return " ".join(below.split()), rows
 
 
+def crates_by_floor(text, heading):
+    """The floors below a heading of a page, each with the crates that begin its rows and items."""
+    below = re.split("^## ", text.split(f"\n## {heading}\n", 1)[1], maxsplit=1, flags=re.MULTILINE)[0]
+    _, *parts = re.split("^### (.*)\n", below, flags=re.MULTILINE)
+    starts = r"^\| \[?(`[a-z_]+`)|^- (\*\*`.*?):"
+    begun = [re.findall(starts, part, flags=re.MULTILINE) for part in parts[1::2]]
+    return list(zip(parts[::2], [[name for start in found for name in re.findall("`([a-z_]+)`", "".join(start))] for found in begun]))
+
+
 def by_number(text, base=16):
     """Names with their numbers behind them, `NAME N, NAME N`, as a table by the number."""
     return {int(number, base): name for name, number in re.findall(r"\b([A-Z_]{2,}) ([0-9A-F]+)\b", text)}

@@ -486,6 +486,7 @@ KEPT = {
 
 # Words that each tool has to refuse, and scripts that lift.py has to refuse at their second line.
 BAD_WORDS = {
+    "crates.py": ["", "draw", "drawing definitions", "definitions x"],
     "arg.py": [
         "",
         "opens",
