@@ -3,6 +3,8 @@
 //! Each function appends to a text that it is lent. At `Err` there was no memory, and a part of what was to come may
 //! stand at the text's end, behind all that the text had. The definitions of the lines are those of `play_model`.
 //!
+//! It touches no RAM, no port and no thread.
+//!
 //! # What is proved
 //!
 //! Each function appends the definition's text, `ret_line` or `mem_line` of `play_model` or a part of one, and what the

@@ -4,6 +4,8 @@
 //! The events are done again on a core, one after the other. Steady is a history in which the reads of each entry agree on every
 //! address that they share.
 //!
+//! It touches the RAM of the core on which the journal is done again, and no port and no thread.
+//!
 //! # What is proved
 //!
 //! `check` gives the verdict of `audit_model` on the events of any journal: Legal exactly where a legal and steady

@@ -4,6 +4,8 @@
 //! Definitions and their laws, and the type of the answer. Steady is a history in which the reads of each entry agree on every
 //! address that they share.
 //!
+//! Nothing here touches RAM, a port or a thread.
+//!
 //! # What is proved
 //!
 //! Events that some legal and steady history begins with are one themselves (`prefixes_can_be`). Each journal of a boot

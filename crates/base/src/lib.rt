@@ -1,6 +1,8 @@
 //! What every crate above shares: the answer for want of memory, a list with a name, the trait of a value that
 //! stands for a list of entries, and the words for finite maps and for zeros that contracts cite.
 //!
+//! It touches no RAM, no port and no thread.
+//!
 //! # What is proved
 //!
 //! `Sequence` gives back what it was made of, and its `clone` is the same list where the elements' are the same; the

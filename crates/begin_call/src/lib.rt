@@ -3,6 +3,8 @@
 //! A call that begins holds its instance, one that is kept or one that is made for it, and starts at the first of its
 //! entry points. What is asked is lent to read; what is changed takes no memory and can't fail.
 //!
+//! It touches no RAM, no port and no thread.
+//!
 //! # What is proved
 //!
 //! `open_kept`, `open_new`, `open_made` and `begin_on` leave the tables that the kernel's definitions `opens_kept`,

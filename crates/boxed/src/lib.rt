@@ -1,5 +1,7 @@
 //! A value on the heap, which contracts see as the value itself, so that a pointer is moved in place of a large value.
 //!
+//! It touches no RAM, no port and no thread.
+//!
 //! # What is proved
 //!
 //! What `Boxed::new` gives is the value, `get` lends it and `into_inner` gives it back; `new` answers want of memory.

@@ -7,6 +7,8 @@
 //! a script. `Served` has what a port over a core says of its SMCs, `Laws` what holds of a client's calls, `Outputs` what a line says of
 //! the outputs of a call, and `PlayLaws` what holds of plays.
 //!
+//! Nothing here touches RAM, a port or a thread.
+//!
 //! # What is proved
 //!
 //! What is written before an SMC, and what the supplicant makes of a message, is what `teec` says of a client over any

@@ -7,6 +7,8 @@
 //! `word` is the word, `playing` plays a script, `player` has the client and makes one call, `operations` makes a call's parameters,
 //! `sessions` has the names that were opened, `outcome` what a call came to, and `lines` its line.
 //!
+//! It touches the source and the sink that it is lent and the RAM of its port, and no thread.
+//!
 //! # What is proved
 //!
 //! `Client` reads a client's script, plays it, and writes its text as a word of the program does (`Keeps`): its

@@ -6,6 +6,8 @@
 //! `Rules`, the rules of a line and what it adds, and `Grammar`, which script a text spells and what the first fault of any other
 //! text is.
 //!
+//! It touches no RAM, no port and no thread.
+//!
 //! # What is proved
 //!
 //! `read_script` reads each text that spells a script of a client as that script, and refuses any other by its first

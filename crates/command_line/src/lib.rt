@@ -2,6 +2,8 @@
 //!
 //! No contract speaks of a program's `main`. So what is decided of its words and of its status stands here.
 //!
+//! It touches the command line of its process, and no RAM, no port and no thread.
+//!
 //! # What is proved
 //!
 //! The words behind the program's name, and whether there are any (`words_of`, `HasWords`); what isn't UTF-8 counts as

@@ -3,6 +3,8 @@
 //!
 //! Definitions and their laws, and the types of what is compared and of the answers.
 //!
+//! Nothing here touches RAM, a port or a thread.
+//!
 //! # What is proved
 //!
 //! Two journals and a session or a group have one answer at most (`one_comparison`). In each journal whose events are a

@@ -8,6 +8,8 @@
 //!
 //! `booting` boots a core, `core_at_work` and `working` have the core, and `went_out` says what a processor goes out with.
 //!
+//! It touches the lane that each call is lent, which an entry reads and an exit writes, and no port and no thread.
+//!
 //! # What is proved
 //!
 //! What a processor goes out with is its open entry, behind its granted steps, so that it can always go out. `core_of`,

@@ -4,6 +4,8 @@
 //! number of its pass, just the entries that it made. The lock knows nothing of what the value is: the
 //! value names its entries, and each entry its maker.
 //!
+//! It touches the table that the threads share, and no RAM and no port.
+//!
 //! # What is proved
 //!
 //! Over every interleaving of threads:

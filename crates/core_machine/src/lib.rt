@@ -4,6 +4,8 @@
 //! say of a machine where it stands in a play: `IsAt` ties its core's events and kernel and its RAM to those of the play, and each
 //! call makes the play's own step.
 //!
+//! It touches the RAM of its own processors, and no port and no thread.
+//!
 //! # What is proved
 //!
 //! A new machine stands at the play where nothing has happened. `Machine::with_fills` makes one of a core and of fills,

@@ -7,6 +7,8 @@
 //! history, which is legal from the boot: what was read stands in their entries, what was written is what the kernel's exits
 //! write.
 //!
+//! It touches the RAM of its own port, and no thread.
+//!
 //! # What is proved
 //!
 //! An SMC that a port answers is that entry and exit: in each play at which the port stands, the play comes to where

@@ -4,6 +4,8 @@
 //! count, to say that there are notifications, to run a bottom half, or to stop. [`duty_of`] says by how the processor came
 //! in and by the kernel's answer what is asked, and [`answer`] does it. The definitions are those of `notify_play`.
 //!
+//! It touches no RAM, no port and no thread.
+//!
 //! # What is proved
 //!
 //! `duty_of` is the definition's duty, where a new call's first read is the head of its argument; `answer` gives the

@@ -2,6 +2,8 @@
 //!
 //! Room for events is reserved ahead, so that what has begun can be written down without memory.
 //!
+//! It touches no RAM, no port and no thread.
+//!
 //! # What is proved
 //!
 //! The journal is a list of events; `push` appends into reserved room; `copied` is the bytes of all reads.

@@ -4,6 +4,8 @@
 //! them can lend them as data; both know how many there were, how many bytes they copied, and the last entry of each
 //! processor.
 //!
+//! It touches no RAM, no port and no thread.
+//!
 //! # What is proved
 //!
 //! A log is a list of events, with how many more have room, and whether they are kept. `push` says the same whether

@@ -6,6 +6,8 @@
 //!
 //! The pool and the size of a page are this project's own.
 //!
+//! It touches no RAM, no port and no thread.
+//!
 //! # What is proved
 //!
 //! `take` gives pages of zeros, and answers `Short` exactly where fewer are free; a page has one owner, by a move; the

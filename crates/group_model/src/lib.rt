@@ -13,6 +13,8 @@
 //! histories that holds, and what follows: a session whose application's sessions share no instance, and sessions that share one, are
 //! answered by one law (`one_law`).
 //!
+//! Nothing here touches RAM, a port or a thread.
+//!
 //! # What is proved
 //!
 //! - After each legal history the sessions of each single-instance application of the boot were answered as the machine

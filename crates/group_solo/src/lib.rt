@@ -9,6 +9,8 @@
 //!
 //! Memory is taken before anything is changed: at want of memory the machine is as it was.
 //!
+//! It touches no RAM, no port and no thread.
+//!
 //! # What is proved
 //!
 //! - `GroupSolo::new` makes what stands for a group's machine before a call has come in, of a boot's key and of the

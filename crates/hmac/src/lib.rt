@@ -2,6 +2,8 @@
 //!
 //! The message is taken in piece by piece, so it never has to stand in one place. Nothing here takes memory.
 //!
+//! It touches no RAM, no port and no thread.
+//!
 //! # What is proved
 //!
 //! `hmac` is RFC 2104's function with SHA-256 on lists of bytes, for a key of every length, and `HmacSha256` the same

@@ -8,6 +8,8 @@
 //! one, and `going` what is noted of a call that goes out. `group_notes` has the notes as those that `journal_notes` takes,
 //! `log_reader` reads a log event by event, and `group` reads that of a whole journal.
 //!
+//! It touches the RAM of the core on which the journal is done again, and no port and no thread.
+//!
 //! # What is proved
 //!
 //! Of a legal journal whose entries have read at most 2^28 bytes in all, and each the same byte wherever its reads

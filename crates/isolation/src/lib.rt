@@ -9,6 +9,8 @@
 //! that. `session_notes` has the notes as those that `journal_notes` takes, `log_reader` reads a log event by event, and `own`
 //! reads that of a whole journal.
 //!
+//! It touches the RAM of the core on which the journal is done again, and no port and no thread.
+//!
 //! # What is proved
 //!
 //! Of a legal journal whose entries have read at most 2^28 bytes in all, and each the same byte wherever its reads

@@ -4,6 +4,8 @@
 //! what so many steps make of it, however they are cut into grants. The crate is one of definitions: the
 //! kernel's entries and exits, the continuations of calls and the machine of one session cite it.
 //!
+//! Nothing here touches RAM, a port or a thread.
+//!
 //! # What is proved
 //!
 //! - Steps of a job add up (`steps_add_up`, `stops_add_up`), and it has at most one stop (`one_stop`).

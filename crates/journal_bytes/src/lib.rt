@@ -3,6 +3,8 @@
 //! [`write_journal`] writes one spelling of a boot and its events, and [`read_journal`] reads all of them, whatever stands
 //! behind the end. The form is this project's own; `docs/formats.md` states it.
 //!
+//! It touches no RAM, no port and no thread.
+//!
 //! # What is proved
 //!
 //! `read_journal` takes at most 2^28 bytes. It answers Ok exactly for those that begin with the spelling of a boot and

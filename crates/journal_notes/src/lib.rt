@@ -7,6 +7,8 @@
 //! `logged` has logs, `notes` what notes can do, `noting` does an event again and notes it, and `reading` reads a log event by
 //! event, or whole.
 //!
+//! It touches the RAM of the core on which events are done again, and no port and no thread.
+//!
 //! # What is proved
 //!
 //! Notes of a type (`EventNotes`) are of somebody, have a log by each history, and say when they are what is noted by

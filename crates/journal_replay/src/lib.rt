@@ -6,6 +6,8 @@
 //!
 //! `laying` lays reads into RAM, `comparing` compares what was done, and `redoing` does an event on the core that `replay` has.
 //!
+//! It touches RAM of its own, into which it lays reads, and no port and no thread.
+//!
 //! # What is proved
 //!
 //! A `Replay` is a core on which the events of a journal are done again, whoever made it. `redo` answers true where the

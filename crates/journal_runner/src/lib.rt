@@ -5,6 +5,8 @@
 //! sessions that share one instance. Each is a word that reads an input, and is called and answers as every one does
 //! ([`word_parts::InputWord`]).
 //!
+//! It touches the source and the sink that it is lent and the RAM of its cores, and no thread.
+//!
 //! # What is proved
 //!
 //! `Record` plays a text trace as `run` does and writes the bytes of its journal: its boot, and the history of its

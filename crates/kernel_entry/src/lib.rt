@@ -5,6 +5,8 @@
 //! core, which takes no memory and can't fail: the plan of a new call is applied to the tables, or a call is handed out
 //! of its slot and resumed. The parts then stand for the kernel after that decision, and the processor carries the call.
 //!
+//! It reads the lane that it is lent, and touches no port and no thread.
+//!
 //! # What is proved
 //!
 //! - `apply` makes of tables and a plan of a new call what the kernel's definition takes the call's slot for, of each

@@ -3,6 +3,8 @@
 //!
 //! Each function is named as the definition of the kernel that it computes. Nothing here reads the lane or takes memory.
 //!
+//! It writes to the lane that it is lent, and touches no port and no thread.
+//!
 //! # What is proved
 //!
 //! - Where the tables of a core are the kernel's and a call as data stands for its pending call, `after_grant` makes of

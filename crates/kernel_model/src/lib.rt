@@ -6,6 +6,8 @@
 //! they make of a whole history. An entry is a reader: it depends on the normal world's RAM only through the
 //! reads that it lists. An exit is a function of the kernel alone.
 //!
+//! Nothing here touches RAM, a port or a thread.
+//!
 //! # What is proved
 //!
 //! The definitions have these laws. Of entries and exits:

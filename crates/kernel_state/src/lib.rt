@@ -4,6 +4,8 @@
 //! is what those events make of the first one. The parts that it keeps for this are `Parts`, and that they stand for
 //! that kernel, table by table, is a fact of the type: a core that breaks it can't be made.
 //!
+//! It touches no RAM, no port and no thread: the steps of an application work on its pages alone.
+//!
 //! # What is proved
 //!
 //! - `Core::boot` gives a core of that boot and those built-in applications with no events, which keeps those that

@@ -2,6 +2,8 @@
 //! is, and that no text has two meanings; where what isn't ended is a fault of the grammar's, each text has one. Traces, traces
 //! with signals and scripts are its cases.
 //!
+//! Nothing here touches RAM, a port or a thread.
+//!
 //! # What is proved
 //!
 //! In a grammar whose lines have a fault where no line feed ends them, each text spells one value, or has one first

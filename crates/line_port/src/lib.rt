@@ -7,6 +7,8 @@
 //! [`StdPort`] is a port over a reader and a writer, the edge to the outside. [`MemPort`] is one in memory, over any code that
 //! chooses its next line by the last answer.
 //!
+//! It touches what is lent to it as a reader and a writer, and no RAM and no thread.
+//!
 //! # What is proved
 //!
 //! What `Port` means, and what several calls come to together (`laws_of_ports`): one history, to which a line that is

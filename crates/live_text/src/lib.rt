@@ -7,6 +7,8 @@
 //! `Scene`, which scene stands for which lines, `Statement`, what a line says and how it is judged, `Asking`, and `Sound`, the
 //! limits that lines keep.
 //!
+//! It touches no RAM, no port and no thread.
+//!
 //! # What is proved
 //!
 //! `read_line` judges a line of a conversation behind all lines before it, of which it is lent a scene alone, so that a

@@ -3,6 +3,8 @@
 //! The crate is one of definitions. `specs/` has the summary, which `trace_runner` prints, and the laws of made traces:
 //! each is within the limits of a trace, and its play, on a core without built-in applications, refuses no entry.
 //!
+//! Nothing here touches RAM, a port or a thread.
+//!
 //! # What is proved
 //!
 //! Each made trace is within the limits of a trace, and a core can be booted for it (`made_traces_are_sound`). The play

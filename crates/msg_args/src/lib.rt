@@ -8,6 +8,8 @@
 //!
 //! Nothing here takes memory.
 //!
+//! It touches no RAM, no port and no thread.
+//!
 //! # What is proved
 //!
 //! `read_arg` answers Ok exactly for spellings, and each refusal exactly where and in its order; `read_params` gives

@@ -6,6 +6,8 @@
 //! function is handed on as a value, and is known above by its relation alone. `program_natives!` makes the table of the
 //! program itself.
 //!
+//! It touches no RAM, no port and no thread.
+//!
 //! # What is proved
 //!
 //! A `Native` keeps the fact that its function may be called with every command and every parameters, and then answers

@@ -7,6 +7,8 @@
 //!
 //! Each function is named as its definition in `kernel_model`, and cites it.
 //!
+//! It reads the lane that it is lent, and touches no port and no thread.
+//!
 //! # What is proved
 //!
 //! - A new call is decided as the kernel's definition decides it: the tests of every call and those of its command come

@@ -7,6 +7,8 @@
 //! A pass knows the history that it has seen, which is legal from the boot of the core that was shared, and of its own
 //! processor it has all events. So at an exit nothing has to be asked: only others have come and gone since the entry.
 //!
+//! It touches the shared core, each call under one turn, and the lane that it is lent, and starts no thread.
+//!
 //! # What is proved
 //!
 //! Over every interleaving of the processors of a core behind the lock. *Legal* means: from the boot of the core that

@@ -4,6 +4,8 @@
 //! signalled. A value that has a driver in `Natives` is told as 0, and starts a bottom half (`bottom_half`), which calls the
 //! driver with how often it was signalled.
 //!
+//! It touches no RAM, no port and no thread.
+//!
 //! # What is proved
 //!
 //! Each call of a `Desk` leaves the record that its definition says, and `next` and `bottom_half` answer as theirs say;

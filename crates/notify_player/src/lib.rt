@@ -4,6 +4,8 @@
 //! lines are appended to a text, or signals of the hardware. At each exit the kernel's answer is told, or the desk's in its place, and
 //! a result is written into the argument of a bottom half or a stop; later items find both. The definitions are those of `notify_play`.
 //!
+//! It touches the RAM of its own processors, and no port and no thread.
+//!
 //! # What is proved
 //!
 //! `booted` and `counting` stand before the first step of a trace with signals, on a core that keeps its events or

@@ -4,6 +4,8 @@
 //! input is read whole and how a call of a word is answered stand in `word_parts`. `specs/` has `Run`, which word it is, `Notified`,
 //! what is promised of the play where its text was written, and `Starting`, where a player stands before the first step.
 //!
+//! It touches the source and the sink that it is lent and the RAM of its player, and no thread.
+//!
 //! # What is proved
 //!
 //! `Notify` reads a text trace with signals, plays it, and writes its text as a word of the program does (`Keeps`): its

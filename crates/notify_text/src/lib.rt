@@ -6,6 +6,8 @@
 //! spells and what the first fault of any other text is. A line other than a signal's is one of a trace, under
 //! the rules of `trace_text`, where `signal` begins no line.
 //!
+//! It touches no RAM, no port and no thread.
+//!
 //! # What is proved
 //!
 //! `read_notify_trace` reads each text that spells a trace with signals as that trace, and refuses any other by its

@@ -6,6 +6,8 @@
 //! it, `Part` a processor's part of a history, `Merge` a history taken apart by its processors, `Laws` what holds of
 //! parts and plays, and `Places` which places are printed.
 //!
+//! Nothing here touches RAM, a port or a thread.
+//!
 //! # What is proved
 //!
 //! - A processor has at most one part of a history, over the same RAM and items (`parts_are_unique`). It stays, with a

@@ -5,6 +5,8 @@
 //! and an event to the next state and a reply, and `Tied` says when a kernel and a machine do the same next. `laws` has
 //! what leaves them tied, and `isolation` what follows of whole histories.
 //!
+//! Nothing here touches RAM, a port or a thread.
+//!
 //! # What is proved
 //!
 //! - After each legal history each session of an application whose sessions share no instance was answered as its

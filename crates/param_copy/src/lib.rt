@@ -8,6 +8,8 @@
 //! The definitions follow `optee_msg.h`, and the parameters are those of the GlobalPlatform TEE Internal
 //! Core API.
 //!
+//! It touches the lane that it is lent, and no port and no thread.
+//!
 //! # What is proved
 //!
 //! - `copy_in` gives the definition's copies, places and cookies, or its first fault, or want of memory, with the list

@@ -2,6 +2,8 @@
 //!
 //! Who lets go of what it was given can so have the same meaning as who keeps it.
 //!
+//! It touches no RAM, no port and no thread.
+//!
 //! # What is proved
 //!
 //! `new` makes the empty one, `with` the same with an entry behind it, and there is nothing else by which it could be

@@ -4,6 +4,8 @@
 //! `Play` what has been played so far and one function for each kind of item, `Text` the bytes that a trace prints,
 //! `Order` which histories hold the items in their order, and `Laws` and `Ram` what holds of each play.
 //!
+//! Nothing here touches RAM, a port or a thread.
+//!
 //! # What is proved
 //!
 //! Of the play of each trace over any RAM, where its items can come (`traces_are_played`):

@@ -4,6 +4,8 @@
 //! of faults that never falls. A failure is answered only where that count rose, and no other answer moves
 //! it, so that whoever stands above can tell a fault of the port from one of its own.
 //!
+//! It touches what is lent to it as a reader or a writer, and no RAM and no thread.
+//!
 //! # What is proved
 //!
 //! What `Source` and `Sink` mean, and what several calls come to together (`laws_of_ports`): a failure is answered only

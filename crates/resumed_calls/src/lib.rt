@@ -4,6 +4,8 @@
 //! it is given. Memory is taken there alone. Then that is applied to the call and to the tables, which takes no memory
 //! and can't fail.
 //!
+//! It reads the lane that it is lent, and touches no port and no thread.
+//!
 //! # What is proved
 //!
 //! - `decide` finds the call that a resume is for, by its slot and its client, and tells the slot and what the call is

@@ -6,6 +6,8 @@
 //!
 //! Nothing here takes memory, and nothing reads or writes RAM.
 //!
+//! It touches no RAM, no port and no thread.
+//!
 //! # What is proved
 //!
 //! - `advance` is a grant of steps to the job that the call stands for: what the call then is stands for the job after

@@ -14,6 +14,8 @@
 //!
 //! Only `take_reply` takes memory, for its list of reads.
 //!
+//! It touches the lane that it is lent, and no port and no thread.
+//!
 //! # What is proved
 //!
 //! - `FileName::new` makes a name exactly of ASCII bytes of at most 161, and names each refusal; `bytes` gives them

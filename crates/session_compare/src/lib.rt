@@ -8,6 +8,8 @@
 //! `same_events`, `same_group_events`, `same_inputs`, `same_params` and `same_apps` say when two events, what came with them,
 //! parameters and applications are the same.
 //!
+//! It touches the RAM of the cores on which the journals are done again, and no port and no thread.
+//!
 //! # What is proved
 //!
 //! `compare` gives the answer of `compare_model` on two journals that were read and a session (`IsComparedAs`), and

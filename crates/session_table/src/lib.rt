@@ -3,6 +3,8 @@
 //! A session ties a client to an instance of a trusted application, from the open that reserves its
 //! number to its close. A call that finds its instance held by another call waits in line for it.
 //!
+//! It touches no RAM, no port and no thread.
+//!
 //! # What is proved
 //!
 //! Sessions are a finite map from numbers that rise from 1 and aren't given twice; calls that wait are a list in order.

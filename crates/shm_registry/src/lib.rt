@@ -5,6 +5,8 @@
 //! A page list is read before a buffer is registered, so nothing here touches RAM. Once a registry is made
 //! only `resolve` takes memory.
 //!
+//! It touches no port and no thread, either.
+//!
 //! # What is proved
 //!
 //! A finite map from cookies to buffers, with pins; each answer exactly where it is named, the whole map said after

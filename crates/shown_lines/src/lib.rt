@@ -5,6 +5,8 @@
 //! was no memory, and a part of what was to come may stand at the text's end, behind all that the text had. The definitions of the
 //! lines are those of `live_play`.
 //!
+//! It touches no RAM, no port and no thread.
+//!
 //! # What is proved
 //!
 //! `push_told` appends what the definitions of `live_play` give as the answer of a core to a question, of the kernel

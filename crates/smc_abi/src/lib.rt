@@ -4,6 +4,8 @@
 //! answered in the same eight. The function ids, return codes and capability bits are those of
 //! `optee_smc.h`; a constant's comment has its name there.
 //!
+//! It touches no RAM, no port and no thread.
+//!
 //! # What is proved
 //!
 //! `decode_call` is the table, and Unknown comes exactly where the id stands in no row; `encode_answer` and

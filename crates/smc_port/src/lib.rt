@@ -7,6 +7,8 @@
 //! `World` is a port whose caller can look at its RAM and change it. `ListedPort` is one that answers by a list, for
 //! tests of what calls a port.
 //!
+//! It touches the lane of a port, and no thread.
+//!
 //! # What is proved
 //!
 //! Of every port, by its trait: an SMC that is answered stands behind those made before, what was read of RAM stood

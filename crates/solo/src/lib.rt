@@ -9,6 +9,8 @@
 //!
 //! What a call does by itself is there for the machine of a group of sessions, too.
 //!
+//! It touches no RAM, no port and no thread.
+//!
 //! # What is proved
 //!
 //! - `SoloSession::new` makes what stands for a session's machine before its open, of a boot's key and of the

@@ -4,6 +4,8 @@
 //! Whatever it answers: the laws are about the definition of a call on an object, which `ObjectState` of `tee_storage` gives the
 //! steps of.
 //!
+//! Nothing here touches RAM, a port or a thread.
+//!
 //! # What is proved
 //!
 //! Of each call on an object by the definition of `tee_storage`, whatever the normal world answers: a read of some

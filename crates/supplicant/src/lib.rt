@@ -10,6 +10,8 @@
 //!
 //! Only the supplicant takes memory.
 //!
+//! It touches the RAM of the world that it is lent, and no thread.
+//!
 //! # What is proved
 //!
 //! `answer` gives the reply of the definition to each request with its payload, and leaves the files, the descriptors

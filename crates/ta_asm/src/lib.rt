@@ -1,5 +1,7 @@
 //! The assembler: text to images of trusted applications, and back. Its language is this project's own.
 //!
+//! It touches no RAM, no port and no thread.
+//!
 //! # What is proved
 //!
 //! `assemble` answers Ok exactly for the texts of the grammar, each with its image, which is valid, or want of memory;

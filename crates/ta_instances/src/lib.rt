@@ -4,6 +4,8 @@
 //! A call that holds an instance has its memory and open objects moved out to it, and gives them back at its
 //! end. So an instance that is held has none here, and nor has the memory of one that is dead.
 //!
+//! It touches no RAM, no port and no thread.
+//!
 //! # What is proved
 //!
 //! Instances are a finite map from numbers; `find` gives the least number of a UUID; `hold` moves memory and open

@@ -2,6 +2,8 @@
 //!
 //! The image format, its instructions and its limits are this project's own.
 //!
+//! It touches no RAM, no port and no thread.
+//!
 //! # What is proved
 //!
 //! `decode_image` answers Ok exactly for spellings of valid images, each with its image, and each fault exactly where

@@ -4,6 +4,8 @@
 //! Names and numbers are those of the GlobalPlatform TEE Internal Core API, unless a type says that it is
 //! this project's own.
 //!
+//! It touches no RAM, no port and no thread.
+//!
 //! # What is proved
 //!
 //! `type_word` packs the four types, the first lowest; a buffer is the list of its bytes; a copy of a buffer or of

@@ -2,6 +2,8 @@
 //!
 //! The machine, its instructions and its system calls are this project's own.
 //!
+//! It touches no RAM, no port and no thread.
+//!
 //! # What is proved
 //!
 //! A machine is a record.

@@ -3,6 +3,8 @@
 //!
 //! Nothing here takes memory.
 //!
+//! It touches no RAM, no port and no thread.
+//!
 //! # What is proved
 //!
 //! - An instance's open objects are a finite map from the numbers 0 to 7; `lowest_free` gives the least number without

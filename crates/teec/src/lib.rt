@@ -14,6 +14,8 @@
 //!
 //! Only the supplicant takes memory.
 //!
+//! It touches RAM by the port that it is lent, and no thread.
+//!
 //! # What is proved
 //!
 //! `open_session`, `invoke` and `close` of a client over any port make a run of SMCs (`HasRun`): argument and buffers

@@ -1,5 +1,7 @@
 //! Lines of a text, and the words of a line, which the text form of traces and the language of the assembler share.
 //!
+//! It touches no RAM, no port and no thread.
+//!
 //! # What is proved
 //!
 //! `split_line` cuts a text at its first line feed, and answers None exactly where there is none; `Words` is the list

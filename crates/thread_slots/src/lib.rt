@@ -3,6 +3,8 @@
 //! `optee_smc.h` calls them threads. A caller learns the number of its slot when its call is suspended,
 //! and resumes the call by that number.
 //!
+//! It touches no RAM, no port and no thread.
+//!
 //! # What is proved
 //!
 //! `enter` takes the lowest free slot, and answers None exactly where none is free; `resume` hands out the value of a

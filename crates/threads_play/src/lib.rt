@@ -7,6 +7,8 @@
 //! Work for which no thread can be started is done by the caller, under the same promise. Once all passes are back, the core has the
 //! one history of all, of which the parts are one play.
 //!
+//! It starts threads, and touches the lanes of the processors and the core that they share, and no source and no sink.
+//!
 //! # What is proved
 //!
 //! `play_on_threads` needs a core with no events that keeps those to come, as many lanes as processors, and that each

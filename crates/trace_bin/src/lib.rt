@@ -3,6 +3,8 @@
 //! [`read_binary`] reads all of them, and [`write_binary`] writes the one spelling of a trace. The form is this project's
 //! own; `docs/formats.md` states it.
 //!
+//! It touches no RAM, no port and no thread.
+//!
 //! # What is proved
 //!
 //! `read_binary` answers Ok exactly for the bytes of the grammar of records, each with its trace, or want of memory;

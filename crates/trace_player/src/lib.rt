@@ -7,6 +7,8 @@
 //! which its call has ended, and then the processor is told by `tell`. What is done with the lines, and what is made of a refused
 //! entry, is its caller's.
 //!
+//! It touches the RAM of its own processors, and no port and no thread.
+//!
 //! # What is proved
 //!
 //! A `Player` is a machine and what each processor was last told. `booted` stands before the first item of a trace on a

@@ -4,6 +4,8 @@
 //! No word is named here. Each is a value of `InputWord`, which reads in its own grammar and plays in its own way. `read_input` gives
 //! what an input spells in a word's grammar, or answers one that isn't served; `run_word` is the call of any word.
 //!
+//! It touches the source and the sink that it is lent, and no RAM and no thread.
+//!
 //! # What is proved
 //!
 //! `read_whole` gives all bytes that the source had, at most 2^24, or the status of a word where the source failed, or

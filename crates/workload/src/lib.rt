@@ -3,6 +3,8 @@
 //! Each call of it is chosen by the numbers of a linear congruential generator: a fast call, an open, a call of a session,
 //! or a resume. `docs/formats.md` states which.
 //!
+//! It touches no RAM, no port and no thread.
+//!
 //! # What is proved
 //!
 //! `make_work` gives the trace of its definition, whose boot has a key of zeros, for every seed and up to 65,536 calls,
