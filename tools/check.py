@@ -808,6 +808,8 @@ def check_crates(comparison):
     comparison.same("architecture.md: the drawing", architecture.split("```\n")[1], crates.drawing())
     comparison.same("architecture.md: the crates", documented.crates_by_floor(architecture, "The crates"), floors)
     comparison.same("proofs.md: crate by crate", documented.crates_by_floor(proofs, "Crate by crate"), floors)
+    listed = shipped.read(shipped.ROOT / "docs/definitions-by-crate.md")
+    comparison.same("definitions-by-crate.md: the files of definitions", listed, crates.definitions())
     named = set(re.findall("`([a-z0-9_]+)`", proofs))
     edits = [path.stem for path in sorted(shipped.CRATES.glob("*/must-fail/*.edit"))]
     comparison.same("proofs.md: edits that it doesn't name", [edit for edit in edits if edit not in named], [])

@@ -12,6 +12,33 @@
 //! has: on a kept instance, which the call then holds, or on a new one, whose pages come from the pool; all else of the
 //! call stays. The pool keeps having just the pages that no instance has. `shared_instance`, `awaited_number`,
 //! `has_pages_for`, `destroy_after`, `destroy_of` and `closing_points` answer as their definitions do.
+//!
+//! # Definitions
+//!
+//! - `shown` (`Asking`): of an instance that an open shares it asks the number, whether it is dead, and who holds it
+//! - `points_of`, `destroy_where`, `opening_points` (`Points`): a close of the last session: close, then destroy
+//! - `beginning_with`, `job_on`, `CanStart` (`Found`): on a dead instance nothing runs
+//! - `who_begins`, `brought`, `CanBegin`, `IsValidApp`, `IsReadyFor`, `IsReady`, `new_number`, `number_behind`,
+//!   `begun_from`, `HasBegun` (`Begins`): a new instance has the number for which calls still wait; a call begins under
+//!   the key that it has
+//!
+//! What it means that a call has begun is defined in `kernel_model` (`specs/Begin.antt`). `HasBegun` ties the code to
+//! that: the tables after it are those of what has begun, the call as data runs its job, is of the application and the
+//! instance, and all else of it stays as it was.
+//!
+//! | Case | Definition | Code |
+//! |---|---|---|
+//! | the instance that an open shares | `shared_instance` | `shared_instance` |
+//! | the number of an instance that is gone, for which calls wait | `awaited_number` | `awaited_number` |
+//! | free pages for a new instance | `has_pages_for` | `has_pages_for` |
+//! | open on a kept instance | `opens_kept`: `held_by`, `Open ∷ []` | `open_kept`: `hold`, `Points::opening(false, ..)` |
+//! | open on a new one of a number | `opens_new`: `made_for`, `fresh_memory`, `Create ∷ Open ∷ []` | `open_new`: `make` with `fresh_pages`, `Points::opening(true, ..)` |
+//! | open on a new one, whose number calls await or is the next | `opens_made` | `open_made`, with `number_for` |
+//! | its destroy, for an open that fails | `destroy_after` | `destroy_after` |
+//! | invoke or close on the session's instance | `begins_on`, `session_job` | `begin_on` |
+//! | on a dead instance nothing runs | `program_on` | `program_on`; `held_of`: `Held::Dead` |
+//! | the entry points of a close | `closing_points`, `destroy_of` | `closing_points`, `destroy_of` |
+//! | the job starts at the first entry point | `begun_job`, `idle_job` | `start`, with `Cont::start_on` |
 #![tactic(auto)]
 
 mod asking;

@@ -22,6 +22,20 @@
 //!   which the granted steps have ended, if they did, and no other (`GoesOut`): that of the kernel's own grant
 //!   (`panic_of`), which shows in no register; `panic` tells it before. Neither an entry nor an exit changes what
 //!   another processor goes out with.
+//!
+//! # Definitions
+//!
+//! - `IsApart` (`Booting`): what a core needs beside its limits to be booted
+//! - `insides`, `IsInside`, `IsOutside` (`Insides`): which processors are inside: a core without events has all its
+//!   processors outside
+//! - `HaveTheirOwn` (`Outgoing`): what the processors of a core go out with: those that are inside have something, each
+//!   its own, and no others
+//! - `outgoing_of`, `SameOutgoing`, `SameOutgoingBut`, `HasComeIn`, `ComesIn`, `GoesOut` (`Working`): an entry and an
+//!   exit of a core at work: each is the core's own, and between them is kept what the processor goes out with; what
+//!   another goes out with stays
+//! - `panic_of`, by `state_panic`, `slot_panic`, `phase_panic`, `grant_panic` (`Panics`): the code of the panic in
+//!   which the call that a processor works on ends within its granted steps, by the grant of its job: a call that rests
+//!   has none
 #![tactic(auto)]
 
 mod booting;

@@ -29,6 +29,21 @@
 //! the conditions; `cpus` tells how many processors there are. What can come in the play can come in the machine, each
 //! machine stands at a play (`machines_stand`), and an entry or an exit changes nobody's turn but its own processor's
 //! (`turns_are_taken`).
+//!
+//! # Definitions
+//!
+//! - `MayCome`, `inside_after`, `ComeInTurn` (`Turns`): each processor comes in and goes out by turns: where processor
+//!   1 is inside, it can go out, and no other
+//! - `IsAt`, `begun`, `play_of`, `CanCome`, `CanAllCome` (`Standing`): the play at which a machine stands, and what can
+//!   come to it: a machine of a core without events stands at the play where nothing has happened
+//! - `IsRefused`, `EntersAt`, `LeavesAt` (`Moving`): behind an entry or an exit the machine stands at the play after
+//!   it: at a refusal it still stands at the play before
+//! - `item_of`, `line_of`, `HasCome`, `IsWhy`, `HasStopped`, `ServesAt`, `Serves`, `Extends` (`Serving`): a list of
+//!   entries and exits as items of a play: the answers are the lines that those items print
+//! - `MachinesStand`, `TurnsAreTaken` (`Laws`): what holds of machines and the plays at which they stand: each machine
+//!   stands at a play
+//!
+//! A machine says nothing of the lines that a play has printed: what it prints is what its calls answer.
 #![tactic(auto)]
 
 mod booting;

@@ -24,6 +24,32 @@
 //!   that can't come.
 //! - That the replies of a group in a history are these follows with the law of groups (`group_model`); both are read
 //!   off a journal by `instance_groups`. `core_cases` runs it.
+//!
+//! # Definitions
+//!
+//! - `alone`, `IsGroupCall` (`Calls`): a call as plain data is a call of the machine: by itself it is one as a
+//!   session's code keeps it (`IsCall` of `solo`), and it has the same session, instance and word on room
+//! - `session_of`, `sessions_of`, `waiter_of`, `waiters_of`, `shared_of`, `app_in`, `entered_in`, `without_calls`
+//!   (`Standing`): what the code keeps as the machine has it, but for its calls: before a call has come in it has no
+//!   session, no instance and nobody who waits, and the next instance is number 1
+//! - `IsBeside`, `IsCallAt`, `StandsFor`, `IsAside`, `ComesTo`, `HasCall` (`Standing`): the code stands for the
+//!   machine, also with a call taken out: one that has gone out ended is none of the machine's
+//! - `IsNumbered`, `IsShortGroup`, `IsGroup`, `IsSomeGroup` (`Standing`): and for one whose numbers fit the replies,
+//!   whose application is valid, and none of whose calls has a longer buffer than the longest that has come
+//! - `found_at`, `found_there`, `found_home` (`Found`): what a call finds: of an instance whether it is dead or held
+//! - `from_start`, `HasStart`, `Beginner`, `begun`, `counted`, `with_waiter` (`Beginning`): what a call begins with,
+//!   and the machine then: of a dead instance nothing runs
+//! - `about_of`, `opener_of` (`Coming`): what is known of a call that comes in, as the machine has it
+//! - `IsSpare`, `number_of_new`, `next_behind_new` (`Opening`): a new instance: it has the number for which calls still
+//!   wait, and else the next one; an open that comes back has one spare where it was told that there is room, and else
+//!   none
+//! - `is_woken`, `with_instance_back`, `Whose`, `home_of`, `after_end`, `after_panic`, `after_unrun` (`Ending`): what a
+//!   call leaves: it wakes the first that waits for its own instance
+//! - `IsGoing` (`GoingOut`): a call as it goes out
+//! - `HasNumber`, `HasRoom`, `HasStepped`, `IsSilent`, `IsShortEvent` (`Stepping`): what a step asks and gives: a call
+//!   that comes in is among the first 2^32
+//! - `IsFine`, `CanBeFed`, `IsFed` (`Feeding`): events that can come one after the other, and a group's code that can
+//!   be fed with them, as of a session in `solo`
 #![tactic(auto)]
 
 mod about;

@@ -37,6 +37,35 @@
 //!   Nor are numbers wanting: the entry of each of a session's calls has read the 32 bytes of its argument's head
 //!   (`own_calls_read`), so that at most 2^23 have come in. `core_cases` runs `own_events` and `own_replies`, where
 //!   memory suffices.
+//!
+//! # Definitions
+//!
+//! - `IsJournal` (`Journals`): what a journal has to be to be done again: it is legal, has read at most 2^28 bytes, and
+//!   reads of one entry agree
+//! - `invoke_input`, `open_input`, `settled_open`, `reserving_open`, `call_by`, `call_in` (`Calls`): what a new call
+//!   is, whoever's it is, by what was decided of it: an open that a limit stopped is `limited` and gets no session; a
+//!   call that is answered is none
+//! - `IsCallTaken`, `IsCallBy`, `IsNewCall` (`Calls`): the same by what the kernel decides of a lane: the slot was
+//!   free, and is taken for this call
+//! - `open_event`, `event_in`, `opens_in`, `event_by`, `opens_by`, `arrival_of`, `arrival_as` (`Arriving`): what a new
+//!   call is for its session: a cancel is `Cancel`, with an area or without, and opens no session; an open that gets no
+//!   session is nothing
+//! - `is_at_once`, `event_for`, `IsNew`, `NamesApp`, `IsNewEvent`, `is_not_open`, `counts` (`Arriving`): the same by
+//!   the call in its slot: an open that waits is none of its session's events, and an invoke leaves the session's
+//!   application as it was
+//! - `seen_then`, `input_then`, `IsBack`, `input_at`, `back_as`, `IsBackIn` (`Arriving`): what a call comes back with:
+//!   one that was interrupted is given nothing
+//! - `wake_at`, `wake_as`, `asked_reply`, `asks_with_payload`, `has_place`, `told_behind`, `told_in`, `told_by`,
+//!   `ended_as`, `ended_in`, `told_at_end` (`Telling`): what is told of a call as data: one that has ended and has a
+//!   buffer, but nobody to wake, frees it; a request with bytes has a place in a buffer alone
+//! - `listing`, `meaning`, `IsArrivalOn`, `IsExitNoted` (`Noted`, `Meaning`): the notes of a session as those that
+//!   `journal_notes` takes: of the session of a number, with the list taken
+//! - `boot_of`, `events_of`, `noted_by`, `log_of`, `IsReading`, `IsReadingOf`, `HasRead`, `Reads` (`Reading`): how far
+//!   a reader has read a session's log: an event adds to the log, or can't come next
+//! - `IsLogOf` (`Logs`): the log of a session has its application, and its entries, each an event with its reply: of a
+//!   number that was never given there is neither
+//!
+//! What is noted of a session is defined in `own_model`; here stands when the code's notes are those.
 #![tactic(auto)]
 
 mod calls;

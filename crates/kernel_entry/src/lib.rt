@@ -26,6 +26,59 @@
 //! - What the parts ask for of legal histories (the slot's call doesn't wait yet, instances have their pages, a new
 //!   instance's number is free, fewer than 80 are kept, a call that waits stands in line) is proved here from
 //!   `kernel_model`'s laws.
+//!
+//! # Definitions
+//!
+//! - `Came`, `began`, `queued`, `open_comes`, `session_comes`, `HasCome` (`Applying`): an open that shares an instance
+//!   which another call holds waits there
+//! - `IsNew`, `CanMake`, `CanShare`, `CanComeIn`, `MayCome`, `MayOpen`, `MayWork`, `KeepsSession` (`Applying`): a new
+//!   instance needs as many free pages as its application has
+//! - `FitsOpen`, `FitsSession`, `FitsPlan`, `CanTakeFor`, `CanTake`, `IsTaken`, `meant_by`, `is_cancel` (`Applying`): a
+//!   plan to cancel means the calls of its session that have its number
+//! - `IsSuspended`, `resumed_as`, `IsResumable`, `CanGoOn`, `goes_on_as`, `HasGoneOn` (`Resuming`): a call can go on
+//!   where one is suspended for the client that the registers name
+//! - `goes_on_in`, `decision_as`, `ComesTo`, `IsDecided`, `IsGiven`, `CanBegin`, `CanContinue`, `HasFound`
+//!   (`Deciding`): what was decided, as a decision of the kernel; what the kernel's call is given that goes on
+//! - `HasMoreRoom`, `IsDecidedBy`, `HasBox`, `IsPrepared`, `IsTooMuchFor`, `Fit`, `Prepares`, `PreparesEntry`,
+//!   `WasPrepared`, `CanTakeSlot`, `CanFollow`, `IsCarriedBy` (`Entering`): with the reads of an entry all have at most
+//!   as many bytes as the core's terms allow
+//!
+//! **A plan, applied.** `IsTaken` says that the tables and the call as data are those that the kernel's definition
+//! takes the slot for (`taken_of` of `new_calls`), that what is to stand beside the slot is the call's, and which calls
+//! are cancelled. What applying asks of the tables (`CanTake`) follows from what `kernel_model` says of the kernels of
+//! legal histories, which `enter` knows of its core.
+//!
+//! **An entry, over parts.** A function that lets a processor in says of each kernel for which the parts stood that the
+//! parts afterwards stand for the one behind the decision, and that the entry stands behind the events. `decision_as`
+//! is the decision of the kernel that was decided: of a call that is resumed it names the kernel's own call, which the
+//! registers name. That the kernel's entry decides just so, with these reads, is one equation (`IsDecided`). An entry
+//! that is prepared (`IsPrepared`) has that, what the call is given that goes on, and all that doing it asks for;
+//! between `prepare` and `admit` the core is as it was, but for room, and what was decided can be read.
+//!
+//! | Test or case | Definition | Code |
+//! |---|---|---|
+//! | a fast call | `decision_of`: `Fast call` | `decide`: `Call::Fast(call)` |
+//! | a new call | `decision_of`: `WithArg`, `WithRpcArg`, `WithRegdArg`, `new_call` | `decide_new`, with `new_call` of `new_calls` |
+//! | a resume | `decision_of`: `Resume`, `resume` | `decide_resume`, with `decide` of `resumed_calls` |
+//! | an unknown function | `decision_of`: `Unknown` | `decide`: `Call::Unknown` |
+//! | all reads have at most as many bytes as the core's terms allow, or the entry is refused | `IsTooMuch` of `kernel_state` | `fit`: `if more > most - copied` |
+//! | an answer is fixed | `after_decision`: `Answers answer` | `enter_fixed` |
+//! | a slot is taken for a new call | `after_decision`: `Takes slot taken`, `cancelled_slots` | `enter_new`, with `enter_with`: `apply`, then `take_slot` |
+//! | a call is resumed in its slot | `after_decision`: `Takes slot taken`, `works_on` | `enter_resumed`: `go_on`, with `hand_out` and `resume_call` |
+//! | the processor is inside, and the entry is an event | `with_visitor`, `HasEntered` of `kernel_state` | `let_in` |
+//! | a test has settled the call, an open with its login | `settled_call`, `settled_open`, `settled_invoke` | `settle`, with `settled_call` and `settled_with` |
+//! | open: on a new instance | `opens`: `opens_made` | `open_or_wait`: `None` |
+//! | open: on the one that it shares | `opens`: `opens_kept` | `open_or_wait`: `shared.holder` is `None` |
+//! | open: that is held | `open_waits`, `waits_in` | `open_or_wait`: `Some(_)`, with `join_line` |
+//! | open: its session, also where it waits | `with_session` | `reserve_session` |
+//! | invoke | `invokes`, `works_or_waits` | `apply_invoke` |
+//! | close | `closes`, `works_or_waits` | `apply_close` |
+//! | invoke, close: another call holds the instance | `works_or_waits`: `is_held instance`, `waits_in` | `work_or_wait`: `is_held`, with `join_line` |
+//! | open, invoke: the buffers of its parts | `with_pins` | `pin_cookies` |
+//! | cancel | `cancels`, `cancelled_slots` | `apply_plan`: `Plan::Cancels`; `take_slot`: `mark_calls` |
+//! | a cookie names the argument | `with_argument_pinned` | `apply`: `pin_argument`, then `apply_plan` |
+//! | register | `keeps_buffer` | `keep_buffer` |
+//! | unregister | `drops_buffer` | `drop_buffer` |
 #![tactic(auto)]
 
 mod beginning;

@@ -21,6 +21,33 @@
 //!   more, its registers and writes are those of the kernel's exit there, what it was booted with stays (`HasLeft`),
 //!   and it is a core again, so that its parts stand for the kernel behind the exit. All that its parts ask for follows
 //!   from the laws of legal histories. It takes no memory and always answers.
+//!
+//! # Definitions
+//!
+//! Each function computes the kernel's definition of its name; what stands in `specs/` is what they ask for and how a
+//! call as data, a slot and the tables of a core are set beside that definition.
+//!
+//! | Kernel's definition | Function |
+//! |---|---|
+//! | `sessions_after`, `sessions_after_panic`, `sessions_unrun`, `has_opened` | the same, in `src/sessions.rt` |
+//! | `gives_back` with `given_back`, and with `killed` | `give_back`, `give_back_dead` |
+//! | `tables_after_end`, `tables_after_panic`, `tables_unrun` | the same |
+//! | `woken_by`, `shows_result` | the same |
+//! | `after_grant` with `after_stop` | `after_grant` |
+//! | `progress_in`, of a call that doesn't run | `after_rest` |
+//! | `answer_of`, `slot_left`, `tables_left` | the same, in `src/telling.rt` |
+//! | `writes_of`, and for each of its parts `word32`, `output_writes`, `session_writes`, `result_writes` | `tell`, and `put_word`, `put_outputs`, `put_session`, `put_result` |
+//! | `progress_of`, of the call that is carried | `comes_to` |
+//! | `goes_out_from` with `kernel_left`, `exit_with`, `goes_out` | the same, in `src/going_out.rt` |
+//! | `exit` | `leave` |
+//!
+//! - `HasItsSession`, `CanBeGivenBack`, `CanBeRemoved`, `CanEnd`, `pages_held` (`Ending`): a dead instance has no pages
+//! - `FitsMessage`, `CanBeAsked`, `HasRoomForResult`, `CanBeTold` (`Telling`): of a call that still runs nothing is
+//!   asked
+//! - `HoldsNow`, `boxes_left` (`Telling`): the box of a call that has finished is one more, where there is room for it
+//! - `IsInside`, `IsInsideFor`, `call_carried`, `HasRunOut`, `IsCarriedOut`, `CanCome`, `CanTell`, `CarriesCall`,
+//!   `CanGoFrom`, `CanExitWith` (`GoingOut`): a fixed answer asks for nothing
+//! - `HasGoneOut`, `HasGoneFrom`, `HasExitedWith` (`GoingOut`): behind a fixed answer the lane is as it was
 #![tactic(auto)]
 
 mod going_out;

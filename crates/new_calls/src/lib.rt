@@ -20,6 +20,67 @@
 //!   among them. What a plan changes is `kernel_entry`'s.
 //! - It asks that each instance is of an application of the boot, and that the pool has the free pages, as in the
 //!   kernels of legal histories.
+//!
+//! # Definitions
+//!
+//! - `call_found`, `call_with`, `call_of`, `settled_of`, `asked_by`, `taken_in_session`, `taken_of` (`Deciding`): a
+//!   plan to invoke stands for `invokes` in its session
+//! - `ComesTo`, `Decides`, `HaveSaid`, `copies_or`, `pages_or` (`Deciding`): want of memory says nothing of the tests
+//! - `open_fault`, `register_fault` (`Faults`): the code of the first test that fails, of those that read nothing more:
+//!   a register of no bytes fails with TEE_ERROR_BAD_PARAMETERS
+//! - `HaveApps`, `IsRegistered`, `AreRegistered`, `CanOpen`, `IsInSession`, `CanInvoke`, `CanKeep`, `CanDrop`,
+//!   `CanApply` (`Applying`): what a plan's change may rely on: a buffer that is to be kept has a new cookie, and pages
+//!   of RAM
+//! - `tests_of`, `ComesIn`, `decision_of`, `IsInSlot`, `CanPin`, `CanTake` (`Commands`): a plan in a slot stands for
+//!   `Takes`
+//! - `named_as`, `located_as` (`Locating`): what the code has found of an argument's place stands for the definition's
+//!
+//! **Beside the kernel's definition.** Each function of the code has the name of the one in `kernel_model`'s
+//! `specs/NewCall.antt` or `specs/Argument.antt` that its contract cites, and a test stands there as one early return,
+//! in the order of the definition.
+//!
+//! | Test or case | Definition | Code |
+//! |---|---|---|
+//! | a free slot, or ETHREAD_LIMIT | `new_call_with`: `known free ethread_limit` | `new_call`: `let Some(slot) = found.free else` |
+//! | where the argument is, or EBADADDR | `new_call_in`: `known (located tables regs) ebadaddr` | `come_in`: `let Some(at) = Located::of(registry, regs) else` |
+//! | a head is there, or EBADADDR | `need (has_head at) ebadaddr` | `if !at.has_head()` |
+//! | the head | `read (take_bytes at.addr 32)`, `head_at` | `reads.take_bytes(..)`, `head_in` |
+//! | the count, the parameters and the area, or EBADADDR | `need (has_argument at ..) ebadaddr` | `if !at.has_argument(&head)` |
+//! | the command, or EBADCMD | `known (command_of ..) ebadcmd` | `let Some(command) = command_of(head.cmd) else` |
+//! | the command's tests | `commands`, `taken_by` | `NewCall::command`, `NewCall::plan` |
+//! | the parameters' attributes | `parameters` | `parameters`, with `params_in` |
+//! | open: the shape | `known (opening params)` | `opening` of `wanted.rt` |
+//! | open: the application | `known (app_of c.boot wanted.uuid)` | `self.setup.application(&wanted.uuid)` |
+//! | open: a dead instance | `shares_one c app (.. dead)` | `shares_dead` |
+//! | open: a session that has the instance alone | `is_taken` | `is_taken` |
+//! | open: room for a session | `has_session_room` | `self.tables.sessions.has_room()` |
+//! | open: pages | `has_pages` | `has_pages` |
+//! | open: copying | `copied_params c wanted.params 2` | `copied_params(alloc, lane, wanted.params, 2, reads)` |
+//! | open: the case | `opens_or_waits` | `Plan::Opens` |
+//! | invoke: the shape | `known (invocation params)` | `invocation` |
+//! | invoke, close, cancel: the session | `known (named_session c)` | `named_session` |
+//! | invoke: a dead instance | `need (not named.1.dead)` | `if instance.dead` |
+//! | invoke: copying | `copied_params c invoked 0` | `copied_params(alloc, lane, invoked, 0, reads)` |
+//! | invoke: the case | `invokes` | `Plan::Invokes` |
+//! | close: the case | `closes` | `Plan::Closes` |
+//! | cancel: the case | `cancels` | `Plan::Cancels` |
+//! | register: the shape | `known (registering params)` | `registering` |
+//! | register: a new cookie | `need (is_none (get ..))` | `if self.tables.registry.contains(param.s)` |
+//! | register: some bytes | `need (nat_lt 0 param.q)` | `if param.q == 0` |
+//! | register: not too many pages | `need (nat_le (pages_touched param) 1024)` | `if pages_touched(param) > MAX_PAGES` |
+//! | register: room | `need (nat_lt (length ..) 64)` | `if self.tables.registry.len() >= REGISTRY_LIMIT` |
+//! | register: pages of RAM | `faultless (listed_pages param)` | `listed_pages` |
+//! | register: the case | `keeps_buffer` | `Plan::KeepsBuffer` |
+//! | unregister: the shape | `known (unregistering params)` | `unregistering` |
+//! | unregister: the cookie is kept | `need (is_some (get ..))` | `if !self.tables.registry.contains(param.s)` |
+//! | unregister: no call pins it, nor does this one as its argument's | `need (is_none (lowest_slot ..))`, in tables `with_argument_pinned` | `if self.is_pinned(param.s)` |
+//! | unregister: the case | `drops_buffer` | `Plan::DropsBuffer` |
+//!
+//! **What a plan brings.** Applying takes no memory and can't fail. So a plan that begins has the application that
+//! runs, also where the call will wait for its instance, and its parameters copied; the memory of the call itself is
+//! taken by whoever decides the entry. And `CanApply` keeps what the tests have found of the tables: the session is the
+//! named one, its instance is of the application, the cookies are registered, there is room. `CanPin` keeps that the
+//! cookie that names the argument is registered.
 #![tactic(auto)]
 
 mod argument;

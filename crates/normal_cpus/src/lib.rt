@@ -32,6 +32,24 @@
 //!   others.
 //! - `works_go_out`: the work of an entry, with its granted steps done, is one that `leave` takes.
 //! - Not proved: that a turn comes, and any order in time between processors beyond what their passes have seen.
+//!
+//! # Definitions
+//!
+//! - `CpuPass`, `boot_of` (`Sharing`): what a shared core was booted with
+//! - `IsCpuOf`, `AreCpusOf`, `AreAllCpusOf` (`Sharing`): a pass with a turn out, or with a ticket, is none
+//! - `is_entry`, `end_inside`, `is_inside` (`Sharing`): a pass that has made nothing is outside
+//! - `HasOnlySeen`, `HasMade` (`Seeing`): what was seen before a turn begins what is seen behind it, which is legal and
+//!   whose entries have read at most 2^28 bytes
+//! - `IsEntryBy`, `IsOpenAt` (`Seeing`): an entry with an event of its processor behind it isn't open
+//! - `coming`, `HasCome`, `ComesIn` (`Entering`): an entry under a turn: one that is let in keeps that history's bytes
+//!   read within 2^28, and the numbers of a refusal are those of the history that the pass has then seen
+//! - `CanGoOut`, `GoesOut` (`Leaving`): an exit under a turn: the exit stands behind its entry, and no event of its
+//!   processor between
+//! - `WorksGoOut` (`Laws`): an entry, its steps and its exit follow each other with no test
+//!
+//! `HasCome` and `GoesOut` say of a pass what `HasEntered` and `HasLeft` of `kernel_state` say of a core. A pass has no
+//! core, but the history that it has seen; that it is legal from the boot of the core that was shared is said of both
+//! halves, so that all laws of legal histories speak of it.
 #![tactic(auto)]
 
 mod cpu_answer;

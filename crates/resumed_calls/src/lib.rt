@@ -18,6 +18,42 @@
 //!   memory and can't fail. That what a call asks for fits a message is proved here.
 //! - It asks of its caller what holds of each kernel: that a call that waits stands in line, that its session is on its
 //!   instance and that of its application, and that an open can make its instance again where that is gone.
+//!
+//! # Definitions
+//!
+//! - `IsCallOf`, `BoxedCont` (`Finding`): no call is found where the kernel has none for the client
+//! - `given_as`, `buffer_as`, `CanBeGiven` (`Giving`): the area and the buffer of a call lie in RAM
+//! - `CanDecide`, `IsDecidedFor`, `IsDecided`, `IsInSlot`, `IsHandedOut`, `IsAppIn` (`Deciding`): where there is no
+//!   call nothing is read
+//! - `resumed_in`, `IsWaitingCall`, `IsOwnInstance`, `WaitsInLine`, `IsInLine`, `CanBeginOn`, `IsItsApp`,
+//!   `MayBeItsApp`, `IsAppFor` (`Waiting`): a call that waits stands in line, and its session is on its instance
+//!
+//! The code follows `Given.antt` and `Resume.antt` of `kernel_model` name by name: `call_resumed_by`, `given_to`,
+//! `offered_buffer`, `call_given`, and, as imperatives, `see_mark` for `sees`, `resume_waiting`, `test_again`,
+//! `sleep_on`, `begin_in`, `begin_open`, `begin`, `end_with`. The other phases of `onward_in` are one function,
+//! `go_on`. What its callers owe is said of the kernel's calls and tables: `CanDecide` and `CanResume`.
+//!
+//! | Test or case | Definition | Code |
+//! |---|---|---|
+//! | no call in the slot for the client, or ERESUME | `call_resumed_by`, `resume` | `call_resumed_by`; `decide`: `return Ok(None)` |
+//! | it was interrupted, or has given its buffer back: nothing | `given_after`: `Interrupted`, `FreesBuffer`, `Finishes` | `given_to`: the same of `Leaving` |
+//! | it wanted a buffer: one or none | `given_after`: `WantsBuffer`, `offered_buffer` | `offered_buffer`, `buffer_or_none` |
+//! | it asked for something: the reply | `given_after`: `Requests`, `reader_at` | `reply_at` |
+//! | it was cancelled: it sees that | `sees`, `phase_seen` | `see_mark` |
+//! | it was given a buffer | `call_given` | `call_given` |
+//! | its application runs | `onward_in`: `Runs` | `go_on`: the call stays |
+//! | its application has asked | `onward_in`: `Asks`, `phase_when_given` | `go_on`, with `Cont::resume_with` |
+//! | it has a result | `onward_in`: `Ends`, `still_wakes` | `go_on`, with `Cont::resume_with` |
+//! | it waits: its session is gone | `resumes_waiting` | `resume_waiting`: `None` |
+//! | it waits: its instance is dead, and it is no close | `tested_again`: `is_dead && not (is_close ..)` | `test_again`: `is_lost` |
+//! | it waits: another call holds the instance | `tested_again`: `is_held`, `sleeps_on` | `test_again`: `is_held`, `sleep_on` |
+//! | there it was given no buffer | `sleeps_on`: `is_without_buffer` | `sleep_on`: `if without_buffer` |
+//! | an open begins, its instance kept | `begins_open`: `Some instance` | `begin_open`: `is_kept` |
+//! | an open begins, its instance gone | `begins_open`: `None`, `has_pages_for` | `begin_open`: `has_pages_for`, else OUT_OF_MEMORY |
+//! | an invoke begins | `begins_in`: `kind.Invoke func` | `begin_in`: `CallKind::Invoke` |
+//! | a close begins | `begins_in`: `kind.Close` | `begin_in`: `CallKind::Close` |
+//! | an invoke or a close whose instance is gone | `begins_in`: `_` | `begin_in`: the last three cases |
+//! | it waits no more | `without_waiter` | `Waiters::leave` in `begin`, `begin_open` and `end_with` |
 #![tactic(auto)]
 
 mod deciding;

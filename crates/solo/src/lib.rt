@@ -26,6 +26,31 @@
 //! - `copied_outputs` copies what is told of the parameters of a call that has ended, for `isolation` too.
 //! - That the replies of a session in a history are these, event by event, follows with the law of isolation
 //!   (`own_model`); both are read off a journal by `isolation`. `core_cases` runs it.
+//!
+//! # Definitions
+//!
+//! - `app_in`, `entered_in`, `session_of`, `instance_of`, `without_calls` (`Standing`): what the code keeps as the
+//!   machine has it, but for its calls: before its open it has no session, no instance and nobody who waits
+//! - `IsCall` (`Calls`): a call as plain data is a call of the machine: it has the same kind, flag, steps and phase,
+//!   and an area and a buffer exactly where that has them
+//! - `IsBeside`, `IsCallAt`, `StandsFor` (`Standing`): the code stands for the machine: a call that has gone out ended
+//!   is none of the machine's
+//! - `IsSolo`, `IsSomeSolo` (`Standing`): and for one that is in order, whose application is valid, and none of whose
+//!   calls has a longer buffer than the longest that has come: a new one stands for `unopened` with the key of the boot
+//! - `found_at`, `beginning_with`, `start_of`, `from_start`, `idle_start`, `HasStart` (`Beginning`): what a call finds
+//!   and begins with: of a dead instance nothing runs
+//! - `woken_by`, `asked_in`, `asks_with_payload`, `placed_or_alloc`, `IsGoing`, `Ending`, `phase_of` (`GoingOut`): a
+//!   call as it goes out: one that waits asks to sleep, and for a buffer first where that has no place
+//! - `HasNumber`, `HasRoomIn`, `HasRoom`, `HasStepped`, `IsSilent` (`Stepping`): what a step asks and gives: a call
+//!   that comes in is among the first 2^32; of one that runs and goes out its steps and those to its stop are below
+//!   2^128
+//! - `IsFine`, `CanBeFed`, `IsFed` (`Feeding`): events that can come one after the other, each with a number for its
+//!   call and room for its steps, and a session's code that can be fed with them; the list of no events can be fed to
+//!   any machine
+//!
+//! The definitions of the machine itself stand in `own_model`; here stands when the code is that machine. As the code
+//! is no function of it, nor it of the code (a call that has asked for something keeps less than its definition does),
+//! that is a relation.
 #![tactic(auto)]
 
 mod apps;

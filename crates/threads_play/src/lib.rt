@@ -39,6 +39,33 @@
 //!
 //! Not proved: that either call ever returns, since a turn may not come, and that memory is found; that any thread is
 //! started, since the caller may do all work.
+//!
+//! # Definitions
+//!
+//! - `IsSoundEntry`, `AreInTurn`, `StaysInTurn` (`InTurn`): what a processor can do from item to item: behind an entry
+//!   that was refused it is outside
+//! - `IsReady`, `IsOn`, `GoesOn` (`Standing`): its pass is one of the core's, and has seen all that it had seen; the
+//!   work that it keeps is that of its open entry
+//! - `ComesToSeat`, `share_in`, `StandsAt`, `HasComeTo` (`Standing`): by its part of the history that its pass has
+//!   seen, it has come to where it stands, and has printed that
+//! - `HasGoneOut`, `IsRefused`, `LeadsTo`, `IsNew` (`Standing`): between an exit and its line; behind a refused entry;
+//!   by what an act answers; before the first
+//! - `HasDoneAll`, `WasRefused`, `EndsAs`, `end_of` (`Ending`): where there was no memory nothing is said of the block
+//! - `place_by`, `place_of`, `places_of` (`Ended`): a refused entry comes at the end of what its pass had seen
+//! - `HasEndedAt`, `HasEnded`, `HasEndedOn`, `HaveEnded`, `texts_of` (`Ended`): the same of each processor over one
+//!   history, in which others have come and gone since
+//! - `CanPlay`, `HasPlayed` (`Work`): one processor's pass and RAM, and what came back of them
+//! - `lacks_memory`, `was_refused` (`Work`): what an outcome says
+//! - `TakeTurns`, `IsOfTrace`, `WasPlayed` (`Played`): items alone are given; what is printed is said of each trace
+//!   that they and the core's boot are of
+//! - `SoundTracesAreInTurn` (`Laws`): a trace within its limits needs no test of turns
+//! - `EndsStay`, `EndsGather`, `EndsMerge` (`Laws`): what a pass has seen is enough for what is printed of the whole
+//! - `AllPlayed`, `EndsArePlayed` (`Laws`): the works of all processors, by their numbers, with the core that was
+//!   closed behind them
+//!
+//! A player writes and shows RAM at once, and a part of a history does so up to its processor's next entry or exit. So
+//! the part is said to stand where the player will stand once it has done that (`ready_for`), and writing and showing
+//! bring the two together with no proof.
 #![tactic(auto)]
 
 mod cpu_playing;
