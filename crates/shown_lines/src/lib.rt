@@ -5,7 +5,7 @@
 //! was no memory, and a part of what was to come may stand at the text's end, behind all that the text had. The definitions of the
 //! lines are those of `live_play`.
 //!
-//! It touches no RAM, no port and no thread.
+//! It reads the bytes of RAM that it is lent, and touches no port and no thread.
 //!
 //! # What is proved
 //!
