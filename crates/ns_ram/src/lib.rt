@@ -7,6 +7,19 @@
 //! wants and what it makes of it, and is run over a lane as well as over a list of reads.
 //!
 //! What the bytes mean is no concern of this crate.
+//!
+//! It touches lanes of RAM, and no port and no thread.
+//!
+//! # What is proved
+//!
+//! - `in_ram` takes no wrapped sum; a read gives a lane's bytes at their address, and writes change theirs alone, one
+//!   and a list of them (`writes_change_their_bytes_alone`); a new lane has zeros everywhere
+//!   (`zeros_are_read_everywhere`).
+//! - Over reads that each hold a lane's bytes a reader gives what it gives over the lane, and takes those that it asks
+//!   for (`readers_depend_on_their_reads`); it adds them behind those before (`readers_add_their_reads`), and of two
+//!   readers in a row the second goes on where the first ended (`readers_run_in_turn`).
+//! - `walk_pages` gives exactly the first pages of a chain, or the least bad one, or want of memory; `take_pages`
+//!   besides lists its reads, and leaves the list as it was at want of memory.
 #![tactic(auto)]
 
 mod lane;
