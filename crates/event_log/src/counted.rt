@@ -77,6 +77,7 @@ impl Counted {
     }
 
     /// Counts the event. Takes no memory.
+    #[inline(always)]
     pub fn push(&mut self, event: Event)
         requires room { 0 < self.old.spare }
         requires fits { copied_bytes self.old.events + copied_by event < 2 ^ 64 }

@@ -42,6 +42,7 @@ impl LastEntries {
     }
 
     /// An event more, which is kept where it is an entry, in place of the processor's earlier one. Takes no memory.
+    #[inline(always)]
     pub fn push(&mut self, event: Event)
         ensures { self.new ≡ self.old ++ event ∷ [] }
     {

@@ -111,6 +111,7 @@ impl Log {
     }
 
     /// The event stands behind the others. Takes no memory, but uses up reserved room.
+    #[inline(always)]
     pub fn push(&mut self, event: Event)
         requires room { 0 < self.old.spare }
         requires fits { copied_bytes self.old.events + copied_by event < 2 ^ 64 }
