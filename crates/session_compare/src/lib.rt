@@ -2,7 +2,7 @@
 //! where that first differs.
 //!
 //! Each journal is done again once, which checks it and reads the log of the session or of the group off it. The two logs are compared
-//! as they are read: the second journal is read on while the first log is ahead, and of both only what the other lacks is kept.
+//! as they are read, and of both only what the other lacks is kept.
 //! `comparing` has the calls, `reading` reads both journals, whosever logs they are, `sessions` and `groups` say whose, `differing`
 //! compares the logs, `apart` says what the two applications alone show, and `illegal` what is told of journals that can't be.
 //! `same_events`, `same_group_events`, `same_inputs`, `same_params` and `same_apps` say when two events, what came with them,

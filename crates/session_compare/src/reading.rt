@@ -76,7 +76,7 @@ pub(crate) enum ReadSo<E> {
     SecondEnds(u64),
 }
 
-/// Reads the second journal on from an event, while the first log is ahead or to the end.
+/// Reads the second journal on from an event, to the end or as far as the comparison needs it.
 fn catch_up<L: ReadsLog>(
     alloc: Global,
     second: &mut L,
