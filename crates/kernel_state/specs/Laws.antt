@@ -61,7 +61,7 @@ regs_of entry = entry.coming.regs.a
 
 -- ---- legal histories
 
--- the journal of each core is a legal history, and what was added to it is what the kernel's entry and exit make
+-- the events of each core are a legal history, and what was added to them is what the kernel's entry and exit make
 pub record JournalsStayLegal : Type 0 where
   pub legal : (core : Core) → IsLegal (booted_of core) (events_of core)
   -- its entries have together read as many bytes as its terms allow, or fewer. Each read has some, all of them in RAM, and those of

@@ -1,4 +1,4 @@
--- Where the entry of a work, and of its run, stands in the journal. This project's own.
+-- Where the entry of a work, and of its run, stands among the events. This project's own.
 use Rattle.std.specs.Prelude.{◌≡◌, ℕ, Some, slice_get}
 use Rattle.event_journal.specs.declared.event.Event.TheVariants.{Entry}
 use Rattle.kernel_state.specs.Laws.{ChangedByOthers, CoreEntry}

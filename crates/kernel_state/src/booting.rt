@@ -2,7 +2,7 @@ ghost use Rattle.std.specs.Prelude.{◌≡◌, ◌<◌, ◌≤◌, ◌^◌, ◌�
 ghost use Rattle.kernel_model.specs.Application.{AreNatives, booted};
 ghost use Rattle.kernel_model.specs.Kernel.{first_kernel, first_tables};
 ghost use Rattle.kernel_state.specs.Booting.{IsWithinLimits, first_repeated};
-ghost use Rattle.kernel_state.specs.Setup.{app_of, boot_of, booted_with, natives_of};
+ghost use Rattle.kernel_state.specs.Setup.{app_of, boot_of, booted_of_setup, natives_of};
 ghost use Rattle.kernel_state.specs.StandsFor.{StandsFor};
 ghost use Rattle.kernel_state.specs.Tables.{tables_of};
 ghost use Rattle.kernel_state.specs.Terms.{kept_terms};
@@ -160,7 +160,7 @@ fn first_parts(
     ensures terms { IfOk result (λ parts. parts.setup.terms ≡ terms) }
     ensures events { IfOk result (λ parts. parts.journal.events ≡ []) }
     ensures keeps { IfOk result (λ parts. parts.journal.keeps ≡ parts.setup.terms.keeps) }
-    ensures stands { IfOk result (λ parts. StandsFor parts (first_kernel (booted_with parts.setup))) }
+    ensures stands { IfOk result (λ parts. StandsFor parts (first_kernel (booted_of_setup parts.setup))) }
 {
     let setup = setup_of(alloc, boot, natives, terms)?;
     parts_with(alloc, setup)
@@ -172,7 +172,7 @@ fn parts_with(alloc: Global, setup: Setup) -> Result<Parts, NoMemory>
     ensures setup { IfOk result (λ parts. parts.setup ≡ setup) }
     ensures events { IfOk result (λ parts. parts.journal.events ≡ []) }
     ensures keeps { IfOk result (λ parts. parts.journal.keeps ≡ setup.terms.keeps) }
-    ensures stands { IfOk result (λ parts. StandsFor parts (first_kernel (booted_with parts.setup))) }
+    ensures stands { IfOk result (λ parts. StandsFor parts (first_kernel (booted_of_setup parts.setup))) }
 {
     let cancellations = free_cancellations(alloc, setup.threads)?;
     let processors = outside_processors(alloc, setup.cpus)?;

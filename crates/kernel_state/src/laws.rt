@@ -2,7 +2,7 @@
 ghost use Rattle.kernel_state.specs.Laws.{AnswersComeExactly, FixedAnswersPass, JournalsStayLegal, ReturnsContinue, WorkCanLeave, WorkStays, WorkStaysOnward};
 ghost use Rattle.kernel_state.specs.Placing.{EntriesStandAtTheirPlaces};
 
-/// The journal of each core is a legal history, and an entry and an exit make of its kernel what the kernel's own make.
+/// The events of each core are a legal history, and an entry and an exit make of its kernel what the kernel's own make.
 pub fn journals_stay_legal()
     ensures { JournalsStayLegal }
 {}
@@ -22,7 +22,7 @@ pub fn work_can_leave()
     ensures { WorkCanLeave }
 {}
 
-/// The place that a work and its run name is that of their entry in the journal, whatever others have done.
+/// The place that a work and its run name is that of their entry among the events, whatever others have done.
 pub fn entries_stand_at_their_places()
     ensures { EntriesStandAtTheirPlaces }
 {}

@@ -4,7 +4,7 @@ ghost use Rattle.std.specs.Str.{bytes_eq};
 ghost use Rattle.kernel_model.specs.Application.{flags_of, pages_in, uuid_of};
 ghost use Rattle.kernel_model.specs.Instances as instances;
 ghost use Rattle.kernel_model.specs.Instances.{is_multi_session, is_single, keeps_alive};
-ghost use Rattle.kernel_state.specs.Setup.{application_of, booted_with};
+ghost use Rattle.kernel_state.specs.Setup.{application_of, booted_of_setup};
 
 use crate::shared_app::SharedApp;
 use crate::terms::Terms;
@@ -42,7 +42,7 @@ impl Setup {
     /// The application of a UUID, if there is one.
     #[tactic(auto, using(crate::proofs::Applications::app_built_in))]
     pub fn application(&self, uuid: &Uuid) -> Result<Option<Application>, NoMemory>
-        ensures { IfOk result (λ app. instances.app_of (booted_with self.now) uuid.now ≡ option_map application_of app) }
+        ensures { IfOk result (λ app. instances.app_of (booted_of_setup self.now) uuid.now ≡ option_map application_of app) }
     {
         if let Some(app) = self.of_boot(uuid) {
             return Ok(Some(Application::OfImage(app.share()?)));

@@ -7,7 +7,7 @@ use rpc_cont::ContStop;
 #[derive(Drop)]
 pub struct Work {
     pub cpu: u8,
-    /// The place of the entry in the journal, from 0.
+    /// The place of the entry among the events, from 0.
     pub entry_at: u64,
     /// The granted steps.
     pub steps: u32,
@@ -19,7 +19,7 @@ pub struct Work {
 #[derive(Drop)]
 pub struct Ran {
     pub cpu: u8,
-    /// The place of the entry in the journal, from 0.
+    /// The place of the entry among the events, from 0.
     pub entry_at: u64,
     pub call: Carried,
     /// Why the call that ran stopped, or that its steps are used.
