@@ -6,7 +6,7 @@ ghost use Rattle.kernel_model.specs.Application.{pages_in};
 ghost use Rattle.kernel_model.specs.Begin.{awaited_number, has_pages_for};
 ghost use Rattle.kernel_model.specs.Instances.{shared_instance};
 ghost use Rattle.kernel_model.specs.Kernel.{Instance as AnyInstance};
-ghost use Rattle.kernel_state.specs.Setup.{application_of, booted_with};
+ghost use Rattle.kernel_state.specs.Setup.{application_of, booted_of_setup};
 ghost use Rattle.kernel_state.specs.Tables.{HasFreePages, tables_of};
 ghost use Rattle.begin_call.specs.Asking.{shown};
 
@@ -53,7 +53,7 @@ pub fn awaited_number(tables: &Tables, app: &Application) -> Option<u32>
 /// There are free pages for a new instance of the application.
 pub fn has_pages_for(setup: &Setup, tables: &Tables, app: &Application) -> bool
     requires { HasFreePages setup.now tables.now }
-    ensures pages { result ≡ has_pages_for (booted_with setup.now) (tables_of tables.now) (application_of app.now) }
+    ensures pages { result ≡ has_pages_for (booted_of_setup setup.now) (tables_of tables.now) (application_of app.now) }
     ensures enough { result ≡ true → pages_in (application_of app.now) ≤ tables.now.pool.free }
 {
     app.pages() <= u32::from(tables.pool.free())

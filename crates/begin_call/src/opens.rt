@@ -6,7 +6,7 @@ ghost use Rattle.kernel_model.specs.Application.{Booted, pages_in, uuid_of};
 ghost use Rattle.kernel_model.specs.Begin.{opens_kept, opens_made, opens_new};
 ghost use Rattle.kernel_model.specs.Instances.{app_of};
 ghost use Rattle.kernel_model.specs.Kernel.{Instance as AnyInstance};
-ghost use Rattle.kernel_state.specs.Setup.{application_of, booted_with};
+ghost use Rattle.kernel_state.specs.Setup.{application_of, booted_of_setup};
 ghost use Rattle.kernel_state.specs.Tables.{HasFreePages, tables_of};
 ghost use Rattle.kernel_state.specs.declared.setup.Setup.{Setup as AnySetup};
 ghost use Rattle.begin_call.specs.Begins.{CanBegin, HasBegun, IsReadyFor, IsValidApp, brought, new_number, number_behind, who_begins};
@@ -63,7 +63,7 @@ pub fn open_new(tables: &mut Tables, cont: &mut Cont<Pages>, call: OpenCall, num
     requires room { length (tables_of tables.old).instances < 80 }
     ensures begins { (boot : Booted) → HasBegun tables.new cont.old cont.new (uuid_of (application_of call.app))
         (opens_new (who_begins boot tables.old call.slot cont.old) (brought call cont.old) number (tables_of tables.old).next_instance) }
-    ensures pages { (setup : AnySetup) → app_of (booted_with setup) (uuid_of (application_of call.app)) ≡ Some (application_of call.app)
+    ensures pages { (setup : AnySetup) → app_of (booted_of_setup setup) (uuid_of (application_of call.app)) ≡ Some (application_of call.app)
         → HasFreePages setup tables.old → HasFreePages setup tables.new }
 {
     let OpenCall { slot, app, login } = call;
@@ -91,7 +91,7 @@ pub fn open_made(tables: &mut Tables, cont: &mut Cont<Pages>, call: OpenCall)
     requires number { (tables_of tables.old).next_instance < 4294967296 }
     ensures begins { (boot : Booted) → HasBegun tables.new cont.old cont.new (uuid_of (application_of call.app))
         (opens_made (who_begins boot tables.old call.slot cont.old) (brought call cont.old)) }
-    ensures pages { (setup : AnySetup) → app_of (booted_with setup) (uuid_of (application_of call.app)) ≡ Some (application_of call.app)
+    ensures pages { (setup : AnySetup) → app_of (booted_of_setup setup) (uuid_of (application_of call.app)) ≡ Some (application_of call.app)
         → HasFreePages setup tables.old → HasFreePages setup tables.new }
 {
     let number = number_for(tables, &call.app);

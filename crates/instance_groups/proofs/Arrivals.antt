@@ -30,7 +30,7 @@ use Rattle.kernel_model.specs.Given.{Given, given_to}
 use Rattle.kernel_model.specs.Kernel.{CallPhase, Runs, Asks, Waits, Ends, Active, Free, Kernel, PendingCall, Suspended, Tables, ThreadSlot}
 use Rattle.kernel_model.specs.Resume.{call_resumed_by, onward_of, resume, resumed_call, suspended_for}
 use Rattle.kernel_state.specs.Calls.{IsCall}
-use Rattle.kernel_state.specs.Setup.{booted_with}
+use Rattle.kernel_state.specs.Setup.{booted_of_setup}
 use Rattle.kernel_state.specs.StandsFor.{StandsFor}
 use Rattle.kernel_state.specs.Tables.{tables_of}
 use Rattle.kernel_state.specs.declared.parts.Parts.{Parts}
@@ -152,10 +152,10 @@ module _ (parts : Parts) (app : Application) (k : Kernel) (regs lane : List ℕ)
 
   back_arrives : StandsFor parts k → call_resumed_by k.slots regs ≡ Some before → IsDecidedFor regs lane [] decided reads before
       → IsCall cont before → before.marked ≡ marked → (came : Resumed) → came.back ≡ back_as cont marked given
-      → came.room ≡ room_as (booted_with parts.setup) (tables_of parts.tables) app cont
-      → over_lane (resume (booted_with parts.setup) k regs) lane []
+      → came.room ≡ room_as (booted_of_setup parts.setup) (tables_of parts.tables) app cont
+      → over_lane (resume (booted_of_setup parts.setup) k regs) lane []
       ≡ Some (model.Takes (thread_in regs) (model.works_on (goes_on_as parts regs decided before)), reads)
-      → IsArrivalFrom (watch (booted_with parts.setup) app k) regs lane (resume (booted_with parts.setup) k regs) (arrival.Back came)
+      → IsArrivalFrom (watch (booted_of_setup parts.setup) app k) regs lane (resume (booted_of_setup parts.setup) k regs) (arrival.Back came)
   back_arrives stands found its is was came back room decides =
       let there = suspended_at (client_in regs) (slice_get k.slots (thread_in regs)) before found in
       record {
@@ -172,17 +172,17 @@ module _ (parts : Parts) (app : Application) (k : Kernel) (regs lane : List ℕ)
             seen = ap (λ (b : BackWith). b.seen) back ∙ seen_is parts k regs lane reads decided before cont marked is was;
             input = ap (λ (b : BackWith). b.input) back ∙ input_is (thread_in regs) cont before given is;
           };
-          room = room ∙ room_is (tables_of parts.tables) cont before (booted_with parts.setup) app is
-              ∙ ap (λ (tables : Tables). room_then (booted_with parts.setup) tables app before) stands.tables;
+          room = room ∙ room_is (tables_of parts.tables) cont before (booted_of_setup parts.setup) app is
+              ∙ ap (λ (tables : Tables). room_then (booted_of_setup parts.setup) tables app before) stands.tables;
         };
       }
 
 pub back_comes : (parts : Parts) (app : Application) (k : Kernel) (regs lane : List ℕ) (reads : List Read) (decided : Decided) (came : Resumed)
     → StandsFor parts k → IsDecided k.slots regs lane [] (Some decided) reads → IsBackIn parts regs (given_as decided.given) came.back
     → IsRoomIn parts app regs came.room
-    → IsArrivalFrom (watch (booted_with parts.setup) app k) regs lane (resume (booted_with parts.setup) k regs) (arrival.Back came)
+    → IsArrivalFrom (watch (booted_of_setup parts.setup) app k) regs lane (resume (booted_of_setup parts.setup) k regs) (arrival.Back came)
 back_comes parts app k regs lane reads decided came stands is back_is room_is =
-    let boot = booted_with parts.setup in
+    let boot = booted_of_setup parts.setup in
     let its = decision_taken boot k regs lane [] decided reads is in
     let at = slot_resumed parts.slots parts.cancellations.items k.slots regs its.call stands.slots its.found in
     back_arrives parts app k regs lane reads decided its.call at.cont.value at.cancellation.marked stands its.found its.decides at.is
@@ -198,7 +198,7 @@ back_comes parts app k regs lane reads decided came stands is back_is room_is =
 -- no call comes back
 pub answered_back : (parts : Parts) (app : Application) (k : Kernel) (regs lane : List ℕ) (reads : List Read)
     → IsDecided k.slots regs lane [] None reads
-    → IsArrivalFrom (watch (booted_with parts.setup) app k) regs lane (resume (booted_with parts.setup) k regs) arrival.Nothing
+    → IsArrivalFrom (watch (booted_of_setup parts.setup) app k) regs lane (resume (booted_of_setup parts.setup) k regs) arrival.Nothing
 answered_back parts app k regs lane reads is = record {
   decision = model.Answers eresume;
   reads = reads;

@@ -22,7 +22,7 @@ use Rattle.kernel_model.specs.Begin.{has_pages_for}
 use Rattle.kernel_model.specs.Decision.{Decision, Answers, Takes}
 use Rattle.kernel_model.specs.Entry.{decision_of}
 use Rattle.kernel_model.specs.Kernel.{Free, Kernel, PendingCall, Tables}
-use Rattle.kernel_state.specs.Setup.{booted_with}
+use Rattle.kernel_state.specs.Setup.{booted_of_setup}
 use Rattle.kernel_state.specs.Tables.{tables_of}
 use Rattle.kernel_state.specs.declared.parts.Parts.{Parts}
 use Rattle.ns_ram.specs.Reader.{Reader, over_lane}
@@ -141,4 +141,4 @@ room_as boot tables app cont = if finds_gone tables cont then Some (has_pages_fo
 -- the same of the call that these registers name
 abbrev pub IsRoomIn : Parts → Application → List ℕ → Option Bool → Type 0
 IsRoomIn parts app regs room = (cont : Box (Cont (List ℕ))) → IsHandedOut parts.slots regs cont →
-    room ≡ room_as (booted_with parts.setup) (tables_of parts.tables) app cont.value
+    room ≡ room_as (booted_of_setup parts.setup) (tables_of parts.tables) app cont.value

@@ -34,7 +34,7 @@ use Rattle.kernel_model.specs.Resume.{Resumed, app_of_call, begins, begins_in, b
 use Rattle.kernel_model.proofs.Parts.{if-both, map_or-both}
 use Rattle.kernel_state.specs.Calls.{IsCall}
 use Rattle.kernel_state.specs.Replay.{Replays}
-use Rattle.kernel_state.specs.Setup.{booted_with}
+use Rattle.kernel_state.specs.Setup.{booted_of_setup}
 use Rattle.kernel_state.specs.StandsFor.{StandsFor}
 use Rattle.kernel_state.specs.Tables.{tables_of}
 use Rattle.kernel_state.specs.declared.parts.Parts.{Parts}
@@ -219,7 +219,7 @@ module _ (parts : Parts) (k : Kernel) (regs lane : List ℕ) (reads : List Read)
   pub seen_is : IsCall cont before → before.marked ≡ marked
       → (if marked && not cont.cancelled then Some cont.steps else None) ≡ seen_then before now
   seen_is is was =
-      let r : Resumed = resumed_call (booted_with parts.setup) (tables_of parts.tables) (thread_in regs) before given in
+      let r : Resumed = resumed_call (booted_of_setup parts.setup) (tables_of parts.tables) (thread_in regs) before given in
       let saw : now.seen ≡ (sees before).seen = onward_sees r r.call.phase ∙ given_sees given (sees before) in
       ap (λ (b : Bool). if marked && not b then Some cont.steps else None) is.seen
       ∙ ap (λ (b : Bool). if b then Some cont.steps else None) (sym (seen_now before marked was))
@@ -228,9 +228,9 @@ module _ (parts : Parts) (k : Kernel) (regs lane : List ℕ) (reads : List Read)
 
   pub back_arrives : StandsFor parts k → call_resumed_by k.slots regs ≡ Some before → IsDecidedFor regs lane [] decided reads before
       → IsCall cont before → before.marked ≡ marked
-      → over_lane (resume (booted_with parts.setup) k regs) lane []
+      → over_lane (resume (booted_of_setup parts.setup) k regs) lane []
       ≡ Some (model.Takes (thread_in regs) (model.works_on (goes_on_as parts regs decided before)), reads)
-      → IsArrivalFrom k regs lane (resume (booted_with parts.setup) k regs) (arrival.Back (back_as cont marked given))
+      → IsArrivalFrom k regs lane (resume (booted_of_setup parts.setup) k regs) (arrival.Back (back_as cont marked given))
   back_arrives stands found its is was decides =
       let there = suspended_at (client_in regs) (slice_get k.slots (thread_in regs)) before found in
       record {
@@ -250,9 +250,9 @@ module _ (parts : Parts) (k : Kernel) (regs lane : List ℕ) (reads : List Read)
 
 pub back_comes : (parts : Parts) (k : Kernel) (regs lane : List ℕ) (reads : List Read) (decided : Decided) (back : BackWith)
     → StandsFor parts k → IsDecided k.slots regs lane [] (Some decided) reads → IsBackIn parts regs (given_as decided.given) back
-    → IsArrivalFrom k regs lane (resume (booted_with parts.setup) k regs) (arrival.Back back)
+    → IsArrivalFrom k regs lane (resume (booted_of_setup parts.setup) k regs) (arrival.Back back)
 back_comes parts k regs lane reads decided back stands is back_is =
-    let boot = booted_with parts.setup in
+    let boot = booted_of_setup parts.setup in
     let its = decision_taken boot k regs lane [] decided reads is in
     let at = slot_resumed parts.slots parts.cancellations.items k.slots regs its.call stands.slots its.found in
     subst (λ (b : BackWith). IsArrivalFrom k regs lane (resume boot k regs) (arrival.Back b))
@@ -270,7 +270,7 @@ back_comes parts k regs lane reads decided back stands is back_is =
 -- no call comes back
 pub answered_back : (parts : Parts) (k : Kernel) (regs lane : List ℕ) (reads : List Read)
     → IsDecided k.slots regs lane [] None reads
-    → IsArrivalFrom k regs lane (resume (booted_with parts.setup) k regs) arrival.Nothing
+    → IsArrivalFrom k regs lane (resume (booted_of_setup parts.setup) k regs) arrival.Nothing
 answered_back parts k regs lane reads is = record {
   decision = model.Answers eresume;
   reads = reads;

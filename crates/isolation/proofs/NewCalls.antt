@@ -6,7 +6,7 @@ use Rattle.kernel_model.proofs.SoundSlots.{free_there}
 use Rattle.kernel_model.specs.Decision as model
 use Rattle.kernel_model.specs.Kernel.{Kernel}
 use Rattle.kernel_model.specs.NewCall.{new_call, new_call_with}
-use Rattle.kernel_state.specs.Setup.{booted_with}
+use Rattle.kernel_state.specs.Setup.{booted_of_setup}
 use Rattle.kernel_state.specs.StandsFor.{StandsFor}
 use Rattle.kernel_state.specs.Tables.{tables_of}
 use Rattle.kernel_state.specs.declared.parts.Parts.{Parts}
@@ -20,10 +20,10 @@ use Rattle.thread_slots.specs.Slots as code
 
 pub new_called : (parts : Parts) (k : Kernel) (regs lane : List ℕ) (reads : List Read) (found : Decided) (free : Option ℕ)
     → free ≡ code.lowest_free parts.slots → new_calls.IsInSlot free found
-    → new_calls.CanTake (booted_with parts.setup) (tables_of parts.tables) found → StandsFor parts k
-    → over_lane (model.decided_by (new_call_with (booted_with parts.setup) (tables_of parts.tables) regs free)) lane []
-    ≡ Some (new_calls.decision_of (booted_with parts.setup) (tables_of parts.tables) found, reads)
-    → IsNewCall k lane (new_call (booted_with parts.setup) k regs) (call_in found)
+    → new_calls.CanTake (booted_of_setup parts.setup) (tables_of parts.tables) found → StandsFor parts k
+    → over_lane (model.decided_by (new_call_with (booted_of_setup parts.setup) (tables_of parts.tables) regs free)) lane []
+    ≡ Some (new_calls.decision_of (booted_of_setup parts.setup) (tables_of parts.tables) found, reads)
+    → IsNewCall k lane (new_call (booted_of_setup parts.setup) k regs) (call_in found)
 new_called parts k regs lane reads (decided.Answers answer) free lowest slot can stands is = record {
   decision = model.Answers answer;
   reads = reads;
@@ -31,7 +31,7 @@ new_called parts k regs lane reads (decided.Answers answer) free lowest slot can
   is = refl;
 }
 new_called parts k regs lane reads (decided.Takes entered plan) free lowest slot can stands is =
-    let c = call_with (booted_with parts.setup) (tables_of parts.tables) entered in
+    let c = call_with (booted_of_setup parts.setup) (tables_of parts.tables) entered in
     record {
       decision = model.Takes entered.slot (taken_of c plan);
       reads = reads;

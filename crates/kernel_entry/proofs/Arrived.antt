@@ -19,7 +19,7 @@ use Rattle.kernel_state.specs.Carried.{CanBeGranted}
 use Rattle.kernel_state.specs.Entering.{CanEnter, Coming, Enters, HasEntered, IsAsBefore, IsTooMuch, bytes_read, visit_of}
 use Rattle.kernel_state.specs.Processors.{processor_of}
 use Rattle.kernel_state.specs.Replay.{Replays}
-use Rattle.kernel_state.specs.Setup.{booted_with}
+use Rattle.kernel_state.specs.Setup.{booted_of_setup}
 use Rattle.kernel_state.specs.StandsFor.{StandsFor}
 use Rattle.kernel_state.specs.Work.{IsWorkOf}
 use Rattle.kernel_state.specs.declared.carried.Carried.{Carried}
@@ -44,7 +44,7 @@ use Rattle.kernel_entry.proofs.Replaying.{MayEnter, comes_entered, entered, read
 -- it is outside, in the kernel that the events come to
 abbrev pub IsOutside : Parts → ℕ → Type 0
 IsOutside parts cpu =
-    IsSomeAnd (kernel_after (booted_with parts.setup) parts.journal.events) (λ (k : Kernel). slice_get k.processors cpu ≡ Some Outside)
+    IsSomeAnd (kernel_after (booted_of_setup parts.setup) parts.journal.events) (λ (k : Kernel). slice_get k.processors cpu ≡ Some Outside)
 
 outside_of : (parts : Parts) (cpu : ℕ) (so : Replays parts) → IsOutside parts cpu → slice_get so.kernel.processors cpu ≡ Some Outside
 outside_of parts cpu so outside =
@@ -60,7 +60,7 @@ cpu_there parts cpu fact outside = ∥∥₁_elim fact (Prim.hlevel props) (λ (
 outside_still : (old new : Parts) (cpu : ℕ) → HasMoreRoom old new → IsOutside old cpu → IsOutside new cpu
 outside_still old new cpu more outside =
     subst (λ (found : Option Kernel). IsSomeAnd found (λ (k : Kernel). slice_get k.processors cpu ≡ Some Outside))
-    (sym (ap₂ (λ setup (events : List Event). kernel_after (booted_with setup) events) (ap (λ (parts : Parts). parts.setup) more.stays) more.events)) outside
+    (sym (ap₂ (λ setup (events : List Event). kernel_after (booted_of_setup setup) events) (ap (λ (parts : Parts). parts.setup) more.stays) more.events)) outside
 
 -- ---- as it comes in
 
@@ -102,7 +102,7 @@ module _ (old new : Parts) (visitor : Visitor) (lane : List ℕ) (decided : Entr
     few_bytes = came.few;
   }
 
-  comes_so : (so : Replays old) → kernel_after (booted_with new.setup) new.journal.events
+  comes_so : (so : Replays old) → kernel_after (booted_of_setup new.setup) new.journal.events
       ≡ Some (after_decision so.kernel (visit_of (coming_of visitor)) (decision_as old so.kernel visitor.regs.a decided))
   comes_so so = comes_entered old new visitor lane (decision_as old so.kernel visitor.regs.a decided) reads so (may_enter so) (came.decides so.kernel so.stands) came.come.setup came.come.events
 
@@ -115,14 +115,14 @@ module _ (old new : Parts) (visitor : Visitor) (lane : List ℕ) (decided : Entr
 
   pub arrived_reads : ∥ Replays old ∥₁ → HoldsReads lane reads
   arrived_reads fact = ∥∥₁_elim fact (AllByRecursion-prop (HoldsRead lane) (λ read. Prim.hlevel props) reads) (λ (so : Replays old).
-      read_from_lane (booted_with old.setup) so.kernel visitor lane (decision_as old so.kernel visitor.regs.a decided) reads (came.decides so.kernel so.stands))
+      read_from_lane (booted_of_setup old.setup) so.kernel visitor lane (decision_as old so.kernel visitor.regs.a decided) reads (came.decides so.kernel so.stands))
 
   pub arrived_work : (work : Work) → work.cpu ≡ visitor.cpu → work.steps ≡ visitor.steps → work.call ≡ call → ∥ Replays old ∥₁ →
-      ∥ IsSomeAnd (kernel_after (booted_with new.setup) new.journal.events) (λ (k : Kernel). IsWorkOf k work) ∥₁
+      ∥ IsSomeAnd (kernel_after (booted_of_setup new.setup) new.journal.events) (λ (k : Kernel). IsWorkOf k work) ∥₁
   arrived_work work cpu steps carried fact = ∥∥₁_map fact (λ (so : Replays old).
       let decision = decision_as old so.kernel visitor.regs.a decided in
       subst (λ (found : Option Kernel). IsSomeAnd found (λ (k : Kernel). IsWorkOf k work)) (sym (comes_so so))
-      (work_after (booted_with new.setup) new.journal.events so.kernel decision visitor work (comes_so so) (outside_of old visitor.cpu so came.outside) cpu steps
+      (work_after (booted_of_setup new.setup) new.journal.events so.kernel decision visitor work (comes_so so) (outside_of old visitor.cpu so came.outside) cpu steps
       (subst (λ (call : Carried). IsCarriedBy call decision) (sym carried) (came.carries so.kernel so.stands))))
 
   few_events : length old.journal.events < 2 ^ 64 → length new.journal.events ≤ 18446744073709551616
@@ -135,16 +135,16 @@ module _ (old new : Parts) (visitor : Visitor) (lane : List ℕ) (decided : Entr
 
   pub arrived_ready : length old.journal.events < 2 ^ 64 → ∥ Replays old ∥₁ → ∥ CanBeGranted visitor.steps call ∥₁
   arrived_ready few fact = ∥∥₁_map fact (λ (so : Replays old).
-      ready_after (booted_with new.setup) new.journal.events so.kernel (decision_as old so.kernel visitor.regs.a decided) visitor call (comes_so so)
+      ready_after (booted_of_setup new.setup) new.journal.events so.kernel (decision_as old so.kernel visitor.regs.a decided) visitor call (comes_so so)
       (outside_of old visitor.cpu so came.outside) came.few_steps (few_events few) (came.carries so.kernel so.stands))
 
 -- ---- a refusal
 
 -- the entry would read as many bytes as those that were listed
 pub reads_too_much : (parts : Parts) (visitor : Visitor) (lane : List ℕ) (copied more : ℕ) → ∥ Replays parts ∥₁ → IsTooMuchFor parts visitor.regs.a lane copied more →
-    option_and_then (bytes_read (booted_with parts.setup) lane (visit_of (coming_of visitor))) (kernel_after (booted_with parts.setup) parts.journal.events) ≡ Some more
+    option_and_then (bytes_read (booted_of_setup parts.setup) lane (visit_of (coming_of visitor))) (kernel_after (booted_of_setup parts.setup) parts.journal.events) ≡ Some more
 reads_too_much parts visitor lane copied more fact too = ∥∥₁_elim fact (Prim.hlevel props) (λ (so : Replays parts).
-    let boot = booted_with parts.setup in
+    let boot = booted_of_setup parts.setup in
     let visit = visit_of (coming_of visitor) in
     let decision = decision_as parts so.kernel visitor.regs.a too.decision in
     ap (λ (found : Option Kernel). option_and_then (bytes_read boot lane visit) found) so.comes_to
@@ -162,7 +162,7 @@ pub has_entered : (old new : Core) (visitor : Visitor) (lane : List ℕ) (decide
     Arrives old.parts new.parts visitor lane decided reads work.call → ∥ Replays old.parts ∥₁ → work.cpu ≡ visitor.cpu → work.steps ≡ visitor.steps →
     work.entry_at ≡ length old.parts.journal.events → HasEntered old new (coming_of visitor) lane work
 has_entered old new visitor lane decided reads work came fact cpu steps at = record {
-  boot = ap booted_with came.come.setup;
+  boot = ap booted_of_setup came.come.setup;
   terms = ap (λ setup. setup.terms) came.come.setup;
   reads = reads;
   from_lane = arrived_reads old.parts new.parts visitor lane decided reads work.call came fact;
@@ -176,7 +176,7 @@ has_entered old new visitor lane decided reads work came fact cpu steps at = rec
 pub has_entered_with_room : (old mid new : Core) (coming : Coming) (lane : List ℕ) (work : Work) → HasMoreRoom old.parts mid.parts →
     HasEntered mid new coming lane work → HasEntered old new coming lane work
 has_entered_with_room old mid new coming lane work more has = record {
-  boot = has.boot ∙ ap booted_with (same_setup old.parts mid.parts more);
+  boot = has.boot ∙ ap booted_of_setup (same_setup old.parts mid.parts more);
   terms = has.terms ∙ ap (λ setup. setup.terms) (same_setup old.parts mid.parts more);
   reads = has.reads;
   from_lane = has.from_lane;
@@ -196,7 +196,7 @@ can_enter_with_room old mid coming more can = record {
 
 as_before : (old new : Core) (mid : Parts) → HasMoreRoom old.parts mid → new.parts ≡ mid → IsAsBefore old new
 as_before old new mid more same = record {
-  boot = ap (λ (parts : Parts). booted_with parts.setup) same ∙ ap booted_with (same_setup old.parts mid more);
+  boot = ap (λ (parts : Parts). booted_of_setup parts.setup) same ∙ ap booted_of_setup (same_setup old.parts mid more);
   terms = ap (λ (parts : Parts). parts.setup.terms) same ∙ ap (λ setup. setup.terms) (same_setup old.parts mid more);
   events = ap (λ (parts : Parts). parts.journal.events) same ∙ more.events;
 }
@@ -206,7 +206,7 @@ too_much : (old : Core) (mid : Parts) (visitor : Visitor) (lane : List ℕ) (cop
 too_much old mid visitor lane copied more room fact too = record {
   so_far = too.so_far ∙ ap copied_bytes room.events;
   of_entry = ap₂ (λ setup (events : List Event).
-      option_and_then (bytes_read (booted_with setup) lane (visit_of (coming_of visitor))) (kernel_after (booted_with setup) events))
+      option_and_then (bytes_read (booted_of_setup setup) lane (visit_of (coming_of visitor))) (kernel_after (booted_of_setup setup) events))
       (sym (same_setup old.parts mid room)) (sym room.events)
       ∙ reads_too_much mid visitor lane copied more fact too;
   above = subst (λ setup. setup.terms.most < copied + more) (same_setup old.parts mid room) too.above;

@@ -10,7 +10,7 @@ use Rattle.kernel_model.specs.Given.{Given, Nothing, Buffer, NoBuffer, Reply, ca
 use Rattle.kernel_model.specs.Kernel.{PendingCall, Progress, ThreadSlot}
 use Rattle.kernel_model.specs.Resume.{Resumed, call_resumed_by, onward_of, resumed_call, sees}
 use Rattle.kernel_state.specs.Calls.{IsCall}
-use Rattle.kernel_state.specs.Setup.{booted_with}
+use Rattle.kernel_state.specs.Setup.{booted_of_setup}
 use Rattle.kernel_state.specs.StandsFor.{AreSlots, IsBeside}
 use Rattle.kernel_state.specs.Tables.{HasFreePages, tables_of}
 use Rattle.kernel_state.specs.declared.cancellation.Cancellation.{Cancellation}
@@ -76,7 +76,7 @@ in_turn one other last first second = record {
 stays_beside : (parts : Parts) (regs : List ℕ) (decided : Decided) (call : PendingCall) → StaysBeside call (goes_on_as parts regs decided call).call
 stays_beside parts regs decided call =
     let given : Given = given_as decided.given in
-    let r = resumed_call (booted_with parts.setup) (tables_of parts.tables) (thread_in regs) call given in
+    let r = resumed_call (booted_of_setup parts.setup) (tables_of parts.tables) (thread_in regs) call given in
     in_turn call (sees call) (onward_of r).call (stays_sees call)
     (in_turn (sees call) (call_given given (sees call)) (onward_of r).call (stays_given given (sees call)) (stays_onward r))
 
@@ -105,7 +105,7 @@ pub come_so : (parts : Parts) (regs : List ℕ) (decided : Decided) (tables : Ta
     (view : Cont (List ℕ)) (besides : List Cancellation) (beside : Cancellation) (call : PendingCall) → slot ≡ thread_in regs → besides ≡ parts.cancellations.items →
     option_map (λ (beside : Cancellation). beside.marked) (slice_get besides slot) ≡ Some marked → IsHandedOut parts.slots regs one → view ≡ one.value →
     ((call : PendingCall) → IsCall view call → call.marked ≡ marked →
-    HasCome (tables_of tables) after (onward_of (resumed_call (booted_with parts.setup) (tables_of parts.tables) slot call (given_as decided.given)))) →
+    HasCome (tables_of tables) after (onward_of (resumed_call (booted_of_setup parts.setup) (tables_of parts.tables) slot call (given_as decided.given)))) →
     IsHandedOut parts.slots regs cont → slice_get parts.cancellations.items (thread_in regs) ≡ Some beside → IsCall cont.value call → call.marked ≡ beside.marked →
     HasCome (tables_of tables) after (goes_on_as parts regs decided call)
 come_so parts regs decided tables after slot marked one cont view besides beside call named same read out shown comes handed there is mark =
@@ -113,7 +113,7 @@ come_so parts regs decided tables after slot marked one cont view besides beside
     let its : marked ≡ beside.marked = same_mark marked beside.marked (sym read
     ∙ ap₂ (λ (besides : List Cancellation) (n : ℕ). option_map (λ (beside : Cancellation). beside.marked) (slice_get besides n)) same named
     ∙ ap (option_map (λ (beside : Cancellation). beside.marked)) there) in
-    subst (λ (n : ℕ). HasCome (tables_of tables) after (onward_of (resumed_call (booted_with parts.setup) (tables_of parts.tables) n call (given_as decided.given)))) named
+    subst (λ (n : ℕ). HasCome (tables_of tables) after (onward_of (resumed_call (booted_of_setup parts.setup) (tables_of parts.tables) n call (given_as decided.given)))) named
     (comes call (subst (λ (cont : Cont (List ℕ)). IsCall cont call) (sym (shown ∙ ap (λ (box : Box (Cont (List ℕ))). box.value) mine)) is) (mark ∙ sym its))
 
 -- ---- the parts

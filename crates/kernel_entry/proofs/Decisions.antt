@@ -17,7 +17,7 @@ use Rattle.kernel_model.specs.Kernel as kernel
 use Rattle.kernel_model.specs.Kernel.{Kernel, PendingCall, ThreadSlot}
 use Rattle.kernel_model.specs.NewCall.{new_call, new_call_with}
 use Rattle.kernel_model.specs.Resume.{call_resumed_by, onward_of, resume, resumed_call}
-use Rattle.kernel_state.specs.Setup.{booted_with}
+use Rattle.kernel_state.specs.Setup.{booted_of_setup}
 use Rattle.kernel_state.specs.StandsFor.{AreSlots, IsSlot, StandsFor}
 use Rattle.kernel_state.specs.Tables.{tables_of}
 use Rattle.kernel_state.specs.declared.cancellation.Cancellation.{Cancellation}
@@ -82,33 +82,33 @@ same_lowest slots beside held are =
 -- ---- a new call
 
 pub new_decides : (parts : Parts) (k : Kernel) (regs lane : List ℕ) (before after : List Read) (decided : NewDecided) → StandsFor parts k →
-    over_lane (decided_by (new_call_with (booted_with parts.setup) (tables_of parts.tables) regs (lowest_free parts.slots))) lane before
-    ≡ Some (new_calls.decision_of (booted_with parts.setup) (tables_of parts.tables) decided, after) →
-    over_lane (new_call (booted_with parts.setup) k regs) lane before
-    ≡ Some (new_calls.decision_of (booted_with parts.setup) (tables_of parts.tables) decided, after)
+    over_lane (decided_by (new_call_with (booted_of_setup parts.setup) (tables_of parts.tables) regs (lowest_free parts.slots))) lane before
+    ≡ Some (new_calls.decision_of (booted_of_setup parts.setup) (tables_of parts.tables) decided, after) →
+    over_lane (new_call (booted_of_setup parts.setup) k regs) lane before
+    ≡ Some (new_calls.decision_of (booted_of_setup parts.setup) (tables_of parts.tables) decided, after)
 new_decides parts k regs lane before after decided stands is =
-    ap₂ (λ (tables : kernel.Tables) (free : Option ℕ). over_lane (decided_by (new_call_with (booted_with parts.setup) tables regs free)) lane before)
+    ap₂ (λ (tables : kernel.Tables) (free : Option ℕ). over_lane (decided_by (new_call_with (booted_of_setup parts.setup) tables regs free)) lane before)
     (sym stands.tables) (same_lowest parts.slots parts.cancellations.items k.slots stands.slots)
     ∙ is
 
 pub new_so : (parts : Parts) (k : Kernel) (regs lane : List ℕ) (before after : List Read) (decided : NewDecided) (free : Option ℕ) (came : model.Decision) →
-    free ≡ lowest_free parts.slots → new_calls.decision_of (booted_with parts.setup) (tables_of parts.tables) decided ≡ came → StandsFor parts k →
-    over_lane (decided_by (new_call_with (booted_with parts.setup) (tables_of parts.tables) regs free)) lane before
-    ≡ Some (new_calls.decision_of (booted_with parts.setup) (tables_of parts.tables) decided, after) →
-    over_lane (new_call (booted_with parts.setup) k regs) lane before ≡ Some (came, after)
+    free ≡ lowest_free parts.slots → new_calls.decision_of (booted_of_setup parts.setup) (tables_of parts.tables) decided ≡ came → StandsFor parts k →
+    over_lane (decided_by (new_call_with (booted_of_setup parts.setup) (tables_of parts.tables) regs free)) lane before
+    ≡ Some (new_calls.decision_of (booted_of_setup parts.setup) (tables_of parts.tables) decided, after) →
+    over_lane (new_call (booted_of_setup parts.setup) k regs) lane before ≡ Some (came, after)
 new_so parts k regs lane before after decided free came lowest same stands is =
     new_decides parts k regs lane before after decided stands
-    (ap (λ (free : Option ℕ). over_lane (decided_by (new_call_with (booted_with parts.setup) (tables_of parts.tables) regs free)) lane before) (sym lowest) ∙ is)
+    (ap (λ (free : Option ℕ). over_lane (decided_by (new_call_with (booted_of_setup parts.setup) (tables_of parts.tables) regs free)) lane before) (sym lowest) ∙ is)
     ∙ ap (λ (came : model.Decision). Some (came, after)) same
 
 -- ---- a resume
 
 pub resume_decides : (parts : Parts) (k : Kernel) (regs lane : List ℕ) (before after : List Read) (decided : Decided) → StandsFor parts k →
     IsDecided k.slots regs lane before (Some decided) after →
-    over_lane (resume (booted_with parts.setup) k regs) lane before
+    over_lane (resume (booted_of_setup parts.setup) k regs) lane before
     ≡ Some (option_map_or (goes_on_in parts regs decided) (call_resumed_by k.slots regs) (model.Answers eresume), after)
 resume_decides parts k regs lane before after decided stands is =
-    let boot = booted_with parts.setup in
+    let boot = booted_of_setup parts.setup in
     let its = decision_taken boot k regs lane before decided after is in
     its.takes
     ∙ ap (λ (tables : kernel.Tables). Some (model.Takes (thread_in regs) (works_on (onward_of (resumed_call boot tables (thread_in regs) its.call (given_as decided.given)))), after))
@@ -116,8 +116,8 @@ resume_decides parts k regs lane before after decided stands is =
     ∙ ap (λ (found : Option PendingCall). Some (option_map_or (goes_on_in parts regs decided) found (model.Answers eresume), after)) (sym its.found)
 
 pub resume_refused : (parts : Parts) (k : Kernel) (regs lane : List ℕ) (before after : List Read) →
-    IsDecided k.slots regs lane before None after → over_lane (resume (booted_with parts.setup) k regs) lane before ≡ Some (model.Answers eresume, after)
-resume_refused parts k regs lane before after is = decision_refused (booted_with parts.setup) k regs lane before after is
+    IsDecided k.slots regs lane before None after → over_lane (resume (booted_of_setup parts.setup) k regs) lane before ≡ Some (model.Answers eresume, after)
+resume_refused parts k regs lane before after is = decision_refused (booted_of_setup parts.setup) k regs lane before after is
 
 -- a call is handed out
 pub suspended_so : (slots : List (Slot (Box (Cont (List ℕ))))) (regs lane : List ℕ) (before after : List Read) (decided : Decided) → ∥ CanDecide slots regs ∥₁ →
@@ -134,16 +134,16 @@ suspended_so slots regs lane before after decided can decides = ∥∥₁_elim c
 -- ---- by the call that the registers name
 
 pub decided_as : {E : Type 0} (parts : Parts) (k : Kernel) (regs lane : List ℕ) (before after : List Read) (found : Result EntryDecision E) (named : Call) →
-    call_of (reg regs 0) ≡ named → IfOk found (ComesTo parts k regs (decision_of (booted_with parts.setup) k regs named) lane before after) →
+    call_of (reg regs 0) ≡ named → IfOk found (ComesTo parts k regs (decision_of (booted_of_setup parts.setup) k regs named) lane before after) →
     IfOk found (IsDecidedSo parts k regs lane before after)
 decided_as parts k regs lane before after found named is decides =
-    subst (λ (call : Call). IfOk found (ComesTo parts k regs (decision_of (booted_with parts.setup) k regs call) lane before after)) (sym is) decides
+    subst (λ (call : Call). IfOk found (ComesTo parts k regs (decision_of (booted_of_setup parts.setup) k regs call) lane before after)) (sym is) decides
 
 pub answered_as : (parts : Parts) (k : Kernel) (regs lane : List ℕ) (before after : List Read) (decided : EntryDecision) (named : Call) →
-    call_of (reg regs 0) ≡ named → ComesTo parts k regs (decision_of (booted_with parts.setup) k regs named) lane before after decided →
+    call_of (reg regs 0) ≡ named → ComesTo parts k regs (decision_of (booted_of_setup parts.setup) k regs named) lane before after decided →
     IsDecidedSo parts k regs lane before after decided
 answered_as parts k regs lane before after decided named is decides =
-    subst (λ (call : Call). ComesTo parts k regs (decision_of (booted_with parts.setup) k regs call) lane before after decided) (sym is) decides
+    subst (λ (call : Call). ComesTo parts k regs (decision_of (booted_of_setup parts.setup) k regs call) lane before after decided) (sym is) decides
 
 -- an answer, as it is
 pub same_answer : (reads : List Read) (one other : Answer) → one ≡ other →

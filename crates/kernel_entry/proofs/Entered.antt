@@ -29,7 +29,7 @@ use Rattle.kernel_state.specs.Carried.{CanBeGranted}
 use Rattle.kernel_state.specs.Entering.{visit_of}
 use Rattle.kernel_state.specs.Reads.{ReadsAgree}
 use Rattle.kernel_state.specs.Replay.{Replays}
-use Rattle.kernel_state.specs.Setup.{boot_of, booted_with, natives_of}
+use Rattle.kernel_state.specs.Setup.{boot_of, booted_of_setup, natives_of}
 use Rattle.kernel_state.specs.StandsFor.{StandsFor}
 use Rattle.kernel_state.specs.Tables.{HasFreePages, tables_of}
 use Rattle.kernel_state.specs.Work.{IsCarriedAs, IsCarriedFor, IsWorkIn, IsWorkOf}
@@ -49,7 +49,7 @@ use Rattle.kernel_entry.proofs.Legal.{AreSound, sound_by_laws}
 
 -- ---- what is known before
 
-booted_so : (parts : Parts) → Replays parts → IsBooted (booted_with parts.setup)
+booted_so : (parts : Parts) → Replays parts → IsBooted (booted_of_setup parts.setup)
 booted_so parts so = record {
   boot = boot_of parts.setup;
   natives = natives_of parts.setup;
@@ -59,10 +59,10 @@ booted_so parts so = record {
 }
 
 -- the laws of the tables
-pub sound_so : (parts : Parts) (so : Replays parts) → AreSound (booted_with parts.setup) (call_at so.kernel.slots) (tables_of parts.tables)
+pub sound_so : (parts : Parts) (so : Replays parts) → AreSound (booted_of_setup parts.setup) (call_at so.kernel.slots) (tables_of parts.tables)
 sound_so parts so =
-    subst (λ (tables : kernel.Tables). AreSound (booted_with parts.setup) (call_at so.kernel.slots) tables) (sym so.stands.tables)
-    (sound_by_laws (booted_with parts.setup) parts.journal.events so.kernel (booted_so parts so) so.comes_to)
+    subst (λ (tables : kernel.Tables). AreSound (booted_of_setup parts.setup) (call_at so.kernel.slots) tables) (sym so.stands.tables)
+    (sound_by_laws (booted_of_setup parts.setup) parts.journal.events so.kernel (booted_so parts so) so.comes_to)
 
 -- a resume can be decided
 pub can_decide : (parts : Parts) (regs : List ℕ) → ∥ Replays parts ∥₁ → ∥ CanDecide parts.slots regs ∥₁
@@ -71,10 +71,10 @@ can_decide parts regs fact = ∥∥₁_map fact (λ (so : Replays parts). record
   held = so.kernel.slots;
   stand = so.stands.slots;
   area = λ call area found has.
-      (calls_placed (booted_with parts.setup) parts.journal.events so.kernel (booted_so parts so) so.comes_to (thread_in regs) (unmarked call)
+      (calls_placed (booted_of_setup parts.setup) parts.journal.events so.kernel (booted_so parts so) so.comes_to (thread_in regs) (unmarked call)
       (ap (option_and_then call_in) (suspended_there so.kernel regs call found))).area area has;
   placed = λ call buffer found has.
-      (calls_placed (booted_with parts.setup) parts.journal.events so.kernel (booted_so parts so) so.comes_to (thread_in regs) (unmarked call)
+      (calls_placed (booted_of_setup parts.setup) parts.journal.events so.kernel (booted_so parts so) so.comes_to (thread_in regs) (unmarked call)
       (ap (option_and_then call_in) (suspended_there so.kernel regs call found))).buffer buffer has;
 })
 
@@ -86,9 +86,9 @@ pub most_bounded : (parts : Parts) → ∥ Replays parts ∥₁ → parts.setup.
 most_bounded parts fact = ∥∥₁_elim fact (Prim.hlevel props) (λ (so : Replays parts). so.bounded)
 
 -- each instance is of an application of the boot
-pub have_apps : (parts : Parts) → ∥ Replays parts ∥₁ → HaveApps (booted_with parts.setup) (tables_of parts.tables)
+pub have_apps : (parts : Parts) → ∥ Replays parts ∥₁ → HaveApps (booted_of_setup parts.setup) (tables_of parts.tables)
 have_apps parts fact = ∥∥₁_elim fact (Prim.hlevel props) (λ (so : Replays parts). λ number instance there.
-    (All-get (λ (kept : ℕ × Instance). IsInMemory (booted_with parts.setup) kept.1) (tables_of parts.tables).instances number instance
+    (All-get (λ (kept : ℕ × Instance). IsInMemory (booted_of_setup parts.setup) kept.1) (tables_of parts.tables).instances number instance
     (sound_so parts so).memory.instances there).application)
 
 -- ---- with more room
@@ -115,7 +115,7 @@ roomier old new more so =
       kernel = so.kernel;
       is_boot = subst (λ s. IsBoot (boot_of s)) (sym setup) so.is_boot;
       are_natives = subst (λ s. AreNatives (boot_of s) (natives_of s)) (sym setup) so.are_natives;
-      comes_to = ap₂ (λ s (events : List Event). kernel_after (booted_with s) events) setup more.events ∙ so.comes_to;
+      comes_to = ap₂ (λ s (events : List Event). kernel_after (booted_of_setup s) events) setup more.events ∙ so.comes_to;
       stands = roomier_stands old new so.kernel more so.stands;
       keeps = more.keeps ∙ so.keeps ∙ sym (ap (λ s. s.terms.keeps) setup);
       few = subst (λ s. copied_bytes new.journal.events ≤ s.terms.most) (sym setup)

@@ -18,7 +18,7 @@ use Rattle.kernel_model.specs.Sound.{call_at, call_in, unmarked}
 use Rattle.kernel_model.specs.SoundCalls.{Fits, HasSession, is_told}
 use Rattle.kernel_state.specs.Calls.{IsCall}
 use Rattle.kernel_state.specs.Replay.{Replays}
-use Rattle.kernel_state.specs.Setup.{application_of, boot_of, booted_with}
+use Rattle.kernel_state.specs.Setup.{application_of, boot_of, booted_of_setup}
 use Rattle.kernel_state.specs.StandsFor.{AreSlots, IsBeside, IsSlotAt}
 use Rattle.kernel_state.specs.Tables.{tables_of}
 use Rattle.kernel_state.specs.declared.cancellation.Cancellation.{Cancellation}
@@ -131,7 +131,7 @@ can_take_slot parts entered of fact blank begins = record {
   beside = beside_there parts entered.slot Free fact (free_at_lowest parts.slots entered.slot begins.lowest);
   takes = record {
     pins = begins.pins;
-    boot = booted_with parts.setup;
+    boot = booted_of_setup parts.setup;
     applies = begins.applies;
     fits = fits_so parts entered of fact begins;
   };
@@ -178,7 +178,7 @@ few_there instances sessions room few = omega (arith, room, few)
 
 can_resume : (parts : Parts) (regs : List ℕ) (decided : Decided) (cont : Box (Cont (List ℕ))) (beside : Cancellation) → Replays parts →
     IsHandedOut parts.slots regs cont → slice_get parts.cancellations.items (thread_in regs) ≡ Some beside →
-    CanResume (booted_with parts.setup) (tables_of parts.tables) (resumed_as regs beside decided) cont.value
+    CanResume (booted_of_setup parts.setup) (tables_of parts.tables) (resumed_as regs beside decided) cont.value
 can_resume parts regs decided cont beside so out there =
     let slot = thread_in regs in
     let tables = tables_of parts.tables in
@@ -192,7 +192,7 @@ can_resume parts regs decided cont beside so out there =
       is = its.is;
       marked = sym its.fits.marked;
       line = λ params waits.
-          waits_in_line (booted_with parts.setup) calls tables slot its.call params in_slot waits sound.before.waiters sound.order sound.before.joined sound.memory
+          waits_in_line (booted_of_setup parts.setup) calls tables slot its.call params in_slot waits sound.before.waiters sound.order sound.before.joined sound.memory
           (λ opens none.
           let fits : Fits tables slot (unmarked its.call) = sound.before.joined.each slot (unmarked its.call) in_slot in
           let has : HasSession (get tables.sessions its.call.session) (unmarked its.call) false = fits.session.opening opens (ap is_told waits) in

@@ -31,7 +31,7 @@ use Rattle.kernel_model.specs.SoundInstances.{AreFew}
 use Rattle.kernel_model.specs.SoundMemory.{AreInMemory, IsInMemory, KeepsMemory}
 use Rattle.kernel_model.specs.SoundOrder.{AreInOrder}
 use Rattle.kernel_model.specs.SoundWaiters.{IsWaiter, awaited}
-use Rattle.kernel_state.specs.Setup.{application_of, boot_of, booted_with, natives_of}
+use Rattle.kernel_state.specs.Setup.{application_of, boot_of, booted_of_setup, natives_of}
 use Rattle.kernel_state.specs.Tables.{HasFreePages, tables_of}
 use Rattle.kernel_state.specs.declared.setup.Setup.{Setup}
 use Rattle.kernel_state.specs.declared.tables.Tables.{Tables}
@@ -166,13 +166,13 @@ below a b is = grind (arith, nat_tests)
 
 -- there are pages for it
 pages_left : (setup : Setup) (tables : Tables) (entered : Entered) (app : Application) → HasFreePages setup tables →
-    has_pages (call_with (booted_with setup) (tables_of tables) entered) app ≡ true → shared_instance (tables_of tables).instances app ≡ None →
+    has_pages (call_with (booted_of_setup setup) (tables_of tables) entered) app ≡ true → shared_instance (tables_of tables).instances app ≡ None →
     pages_in app ≤ tables.pool.free
 pages_left setup tables entered app pages has none =
-    let enough : has_pages_for (booted_with setup) (tables_of tables) app ≡ true =
-    sym (ap (λ (shared : Option (ℕ × Instance)). is_some shared || has_pages_for (booted_with setup) (tables_of tables) app) none) ∙ has in
+    let enough : has_pages_for (booted_of_setup setup) (tables_of tables) app ≡ true =
+    sym (ap (λ (shared : Option (ℕ × Instance)). is_some shared || has_pages_for (booted_of_setup setup) (tables_of tables) app) none) ∙ has in
     subst (λ (n : ℕ). pages_in app ≤ n) (sym pages.free)
-    (at_most (pages_in app) (free_pages (booted_with setup) (tables_of tables).instances) enough)
+    (at_most (pages_in app) (free_pages (booted_of_setup setup) (tables_of tables).instances) enough)
 
 few_kept : (instances sessions : ℕ) → instances ≤ sessions + 16 → sessions < 64 → instances < 80
 few_kept instances sessions most room = omega (arith, most, room)
@@ -180,11 +180,11 @@ few_kept instances sessions most room = omega (arith, most, room)
 few_made : (next sessions : ℕ) → next ≤ sessions → sessions < 4294967296 → next < 4294967296
 few_made next sessions fewer room = omega (arith, fewer, room)
 
-can_make : (setup : Setup) (calls : Calls) (tables : Tables) (entered : Entered) (app : Application) → AreSound (booted_with setup) calls (tables_of tables) →
-    calls entered.slot ≡ None → HasFreePages setup tables → has_pages (call_with (booted_with setup) (tables_of tables) entered) app ≡ true →
+can_make : (setup : Setup) (calls : Calls) (tables : Tables) (entered : Entered) (app : Application) → AreSound (booted_of_setup setup) calls (tables_of tables) →
+    calls entered.slot ≡ None → HasFreePages setup tables → has_pages (call_with (booted_of_setup setup) (tables_of tables) entered) app ≡ true →
     has_room tables.sessions ≡ true → shared_instance (tables_of tables).instances app ≡ None → CanMake tables app
 can_make setup calls tables entered app sound free pages has room none =
-    let c = call_found (booted_with setup) (tables_of tables) entered in
+    let c = call_found (booted_of_setup setup) (tables_of tables) entered in
     let rooms = and_parts (nat_lt (length tables.sessions.kept) 64) (nat_lt tables.sessions.next (2 ^ 32)) room in
     record {
       pages = pages_left setup tables entered app pages has none;
@@ -197,7 +197,7 @@ can_make setup calls tables entered app sound free pages has room none =
 -- ---- plans
 
 may_come : (setup : Setup) (calls : Calls) (tables : Tables) (slot : ℕ) (uuid : List ℕ) (app : Application) → IsBoot (boot_of setup) →
-    AreSound (booted_with setup) calls (tables_of tables) → calls slot ≡ None → slot < 16 → app_of (booted_with setup) uuid ≡ Some app →
+    AreSound (booted_of_setup setup) calls (tables_of tables) → calls slot ≡ None → slot < 16 → app_of (booted_of_setup setup) uuid ≡ Some app →
     MayCome tables slot app
 may_come setup calls tables slot uuid app is_boot sound free few known = record {
   valid = valid_app (boot_of setup) (natives_of setup) uuid app is_boot known;
@@ -207,8 +207,8 @@ may_come setup calls tables slot uuid app is_boot sound free few known = record 
 }
 
 fits_open : (setup : Setup) (calls : Calls) (tables : Tables) (entered : Entered) (app : Application) (cookies : List ℕ) → IsBoot (boot_of setup) →
-    AreSound (booted_with setup) calls (tables_of tables) → calls entered.slot ≡ None → entered.slot < 16 → HasFreePages setup tables →
-    CanOpen (call_with (booted_with setup) (tables_of tables) entered) app cookies → FitsOpen tables entered.slot app
+    AreSound (booted_of_setup setup) calls (tables_of tables) → calls entered.slot ≡ None → entered.slot < 16 → HasFreePages setup tables →
+    CanOpen (call_with (booted_of_setup setup) (tables_of tables) entered) app cookies → FitsOpen tables entered.slot app
 fits_open setup calls tables entered app cookies is_boot sound free few pages can = record {
   comes = may_come setup calls tables entered.slot (uuid_of app) app is_boot sound free few can.known;
   opens = record { share = by (shared_instance (tables_of tables).instances app) refl; room = can.room };
@@ -217,24 +217,24 @@ fits_open setup calls tables entered app cookies is_boot sound free few pages ca
     by : (shared : Option (ℕ × Instance)) → shared_instance (tables_of tables).instances app ≡ shared → CanShare tables app shared
     by None is = can_make setup calls tables entered app sound free pages can.pages can.room is
     by (Some kept) is = λ unheld.
-        shared_ready (booted_with setup) calls (tables_of tables) app kept sound can.known is
+        shared_ready (booted_of_setup setup) calls (tables_of tables) app kept sound can.known is
         (sym (ap (λ (shared : Option (ℕ × Instance)). option_map_or (λ (kept : ℕ × Instance). kept.1.dead) shared false) is) ∙ can.alive) unheld
 
 fits_session : (setup : Setup) (calls : Calls) (tables : Tables) (entered : Entered) (app : Application) (session : Session) → IsBoot (boot_of setup) →
-    AreSound (booted_with setup) calls (tables_of tables) → calls entered.slot ≡ None → entered.slot < 16 →
-    IsInSession (call_with (booted_with setup) (tables_of tables) entered) session app → FitsSession tables entered.slot app session
+    AreSound (booted_of_setup setup) calls (tables_of tables) → calls entered.slot ≡ None → entered.slot < 16 →
+    IsInSession (call_with (booted_of_setup setup) (tables_of tables) entered) session app → FitsSession tables entered.slot app session
 fits_session setup calls tables entered app session is_boot sound free few there =
-    let c = call_with (booted_with setup) (tables_of tables) entered in
+    let c = call_with (booted_of_setup setup) (tables_of tables) entered in
     record {
       comes = may_come setup calls tables entered.slot there.instance.uuid app is_boot sound free few there.known;
-      works = session_ready (booted_with setup) calls (tables_of tables) app session.instance there.instance sound (found_there c session app there) there.known;
+      works = session_ready (booted_of_setup setup) calls (tables_of tables) app session.instance there.instance sound (found_there c session app there) there.known;
       rising = sound.order.sessions.rising;
     }
 
 -- the tables are such that a plan can be applied to which the tests have come
 pub fits_plan : (setup : Setup) (calls : Calls) (tables : Tables) (entered : Entered) (of : Plan) → IsBoot (boot_of setup) →
-    AreSound (booted_with setup) calls (tables_of tables) → calls entered.slot ≡ None → entered.slot < 16 → HasFreePages setup tables →
-    CanApply (call_with (booted_with setup) (tables_of tables) entered) of → FitsPlan tables entered.slot of
+    AreSound (booted_of_setup setup) calls (tables_of tables) → calls entered.slot ≡ None → entered.slot < 16 → HasFreePages setup tables →
+    CanApply (call_with (booted_of_setup setup) (tables_of tables) entered) of → FitsPlan tables entered.slot of
 fits_plan setup calls tables entered (plan.Settles settled) is_boot sound free few pages can = tt
 fits_plan setup calls tables entered (plan.Opens app login copies) is_boot sound free few pages can =
     fits_open setup calls tables entered (application_of app) copies.cookies.items is_boot sound free few pages can

@@ -26,7 +26,7 @@ use Rattle.ta_isa.specs.Boots.{IsBoot}
 use Rattle.kernel_state.specs.Entering.{visit_of}
 use Rattle.kernel_state.specs.Reads.{Agree, ReadsAgree}
 use Rattle.kernel_state.specs.Replay.{Replays}
-use Rattle.kernel_state.specs.Setup.{boot_of, booted_with, natives_of}
+use Rattle.kernel_state.specs.Setup.{boot_of, booted_of_setup, natives_of}
 use Rattle.kernel_state.specs.StandsFor.{StandsFor}
 use Rattle.kernel_state.specs.declared.parts.Parts.{Parts}
 use Rattle.kernel_entry.specs.Visiting.{coming_of}
@@ -140,19 +140,19 @@ read_from_lane boot kernel visitor lane decision reads decides =
 
 -- the events come to the kernel after what was decided
 pub comes_entered : (old new : Parts) (visitor : Visitor) (lane : List ℕ) (decision : Decision) (reads : List Read) (fact : Replays old) →
-    MayEnter old fact.kernel visitor reads → Decides (booted_with old.setup) fact.kernel visitor lane decision reads →
+    MayEnter old fact.kernel visitor reads → Decides (booted_of_setup old.setup) fact.kernel visitor lane decision reads →
     new.setup ≡ old.setup → new.journal.events ≡ old.journal.events ++ Entry visitor.cpu visitor.regs visitor.steps reads ∷ [] →
-    kernel_after (booted_with new.setup) new.journal.events ≡ Some (after_decision fact.kernel (visit_of (coming_of visitor)) decision)
+    kernel_after (booted_of_setup new.setup) new.journal.events ≡ Some (after_decision fact.kernel (visit_of (coming_of visitor)) decision)
 comes_entered old new visitor lane decision reads fact may decides setup events =
-    let boot = booted_with old.setup in
+    let boot = booted_of_setup old.setup in
     let next = after_decision fact.kernel (visit_of (coming_of visitor)) decision in
     let read = (over_lane-reading (entry boot fact.kernel (visit_of (coming_of visitor))) lane reads next).0 (entered boot fact.kernel visitor lane decision reads decides) in
-    ap₂ (λ setup (events : List Event). kernel_after (booted_with setup) events) setup events
+    ap₂ (λ setup (events : List Event). kernel_after (booted_of_setup setup) events) setup events
     ∙ kernel_follows boot fact.kernel next old.journal.events (Entry visitor.cpu visitor.regs visitor.steps reads) fact.comes_to
     (entry_follows boot fact.kernel next visitor reads may.outside may.some_steps may.few_steps read.0)
 
 pub replays_entered : (old new : Parts) (visitor : Visitor) (lane : List ℕ) (decision : Decision) (reads : List Read) (fact : Replays old) →
-    MayEnter old fact.kernel visitor reads → Decides (booted_with old.setup) fact.kernel visitor lane decision reads →
+    MayEnter old fact.kernel visitor reads → Decides (booted_of_setup old.setup) fact.kernel visitor lane decision reads →
     new.setup ≡ old.setup → new.journal.events ≡ old.journal.events ++ Entry visitor.cpu visitor.regs visitor.steps reads ∷ [] →
     new.journal.keeps ≡ old.journal.keeps → StandsFor new (after_decision fact.kernel (visit_of (coming_of visitor)) decision) → Replays new
 replays_entered old new visitor lane decision reads fact may decides setup events keeps stands =
@@ -170,7 +170,7 @@ replays_entered old new visitor lane decision reads fact may decides setup event
       bounded = subst (λ setup. setup.terms.most ≤ 2 ^ 63) (sym setup) fact.bounded;
       agree = subst (λ (events : List Event). AllByRecursion ReadsAgree events) (sym events)
           (agree_behind old.journal.events happened fact.agree
-          (all_agree lane reads (read_from_lane (booted_with old.setup) fact.kernel visitor lane decision reads decides)));
+          (all_agree lane reads (read_from_lane (booted_of_setup old.setup) fact.kernel visitor lane decision reads decides)));
     }
   where
     copied_behind : (events : List Event) (happened : Event) → copied_bytes (events ++ happened ∷ []) ≡ copied_bytes events + copied_by happened

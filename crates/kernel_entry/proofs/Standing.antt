@@ -31,7 +31,7 @@ use Rattle.new_calls.specs.declared.entered.Entered.{Entered}
 use Rattle.new_calls.specs.declared.plan.Plan.{Plan}
 use Rattle.new_calls.specs.declared.plan.Plan.TheVariants as plan
 use Rattle.ns_ram.specs.declared.read.Read.{Read}
-use Rattle.kernel_state.specs.Setup.{booted_with}
+use Rattle.kernel_state.specs.Setup.{booted_of_setup}
 use Rattle.kernel_state.specs.declared.tables.Tables.{Tables}
 use Rattle.kernel_entry.specs.Applying.{IsTaken, is_cancel, meant_by}
 use Rattle.kernel_entry.specs.Visiting.{HasTaken, IsInside, besides_cancelled, cancels_by, coming_of}
@@ -189,13 +189,13 @@ meant_same c entered (plan.DropsBuffer cookie) cancels beside is head session nu
 -- a slot was taken for the plan
 pub new_takes : (old mid new : Parts) (visitor : Visitor) (entered : Entered) (of : Plan) (cancels : Bool) (beside : Cancellation) (blanks : Boxes) (after : Tables)
     (cont : Cont (List ℕ)) (reads : List Read) → cancels ≡ is_cancel of →
-    IsTaken (meant_by entered of) entered after cont (taken_of (call_with (booted_with old.setup) (tables_of old.tables) entered) of) →
+    IsTaken (meant_by entered of) entered after cont (taken_of (call_with (booted_of_setup old.setup) (tables_of old.tables) entered) of) →
     HasFreePages old.setup after → beside ≡ record { session = cont.session; cancel_id = entered.head.cancel_id; marked = false } →
     HasTaken (record old { tables = after; blanks = blanks }) mid visitor.cpu entered.slot beside (cancels_by cancels beside) →
     IsInside mid new visitor (InSlot entered.slot) reads →
-    TakesSlot old new visitor entered.slot beside (taken_of (call_with (booted_with old.setup) (tables_of old.tables) entered) of)
+    TakesSlot old new visitor entered.slot beside (taken_of (call_with (booted_of_setup old.setup) (tables_of old.tables) entered) of)
 new_takes old mid new visitor entered of cancels beside blanks after cont reads is taken pages beside_is has inside =
-    let c = call_with (booted_with old.setup) (tables_of old.tables) entered in
+    let c = call_with (booted_of_setup old.setup) (tables_of old.tables) entered in
     let session : beside.session ≡ (taken_of c of).call.session = ap (λ (beside : Cancellation). beside.session) beside_is ∙ taken.call.session in
     let meant : cancels_by cancels beside ≡ (taken_of c of).cancels =
     meant_same c entered of cancels beside is refl session (ap (λ (beside : Cancellation). beside.cancel_id) beside_is) ∙ sym taken.cancels in

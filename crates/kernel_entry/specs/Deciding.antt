@@ -8,7 +8,7 @@ use Rattle.kernel_model.specs.Decision.{Decision, works_on}
 use Rattle.kernel_model.specs.Entry.{decision_of}
 use Rattle.kernel_model.specs.Kernel.{Kernel, PendingCall}
 use Rattle.kernel_model.specs.Resume.{call_resumed_by}
-use Rattle.kernel_state.specs.Setup.{booted_with}
+use Rattle.kernel_state.specs.Setup.{booted_of_setup}
 use Rattle.kernel_state.specs.StandsFor.{StandsFor}
 use Rattle.kernel_state.specs.Tables.{tables_of}
 use Rattle.kernel_state.specs.declared.parts.Parts.{Parts}
@@ -38,7 +38,7 @@ goes_on_in parts regs decided call = model.Takes (thread_in regs) (works_on (goe
 abbrev pub decision_as : Parts → Kernel → List ℕ → EntryDecision → Decision
 decision_as parts kernel regs (decision.Answers answer) = model.Answers answer
 decision_as parts kernel regs (decision.Begins call) = model.Takes call.value.entered.slot
-    (taken_of (call_with (booted_with parts.setup) (tables_of parts.tables) call.value.entered) call.value.plan)
+    (taken_of (call_with (booted_of_setup parts.setup) (tables_of parts.tables) call.value.entered) call.value.plan)
 decision_as parts kernel regs (decision.GoesOn decided) =
     option_map_or (goes_on_in parts regs decided) (call_resumed_by kernel.slots regs) (model.Answers eresume)
 
@@ -51,7 +51,7 @@ ComesTo parts kernel regs reader lane before after decided =
 -- the kernel decides so of a call with these registers
 abbrev pub IsDecided : Parts → Kernel → List ℕ → List ℕ → List Read → List Read → EntryDecision → Type 0
 IsDecided parts kernel regs lane before after decided =
-    let reader : Reader Decision = decision_of (booted_with parts.setup) kernel regs (call_of (reg regs 0)) in
+    let reader : Reader Decision = decision_of (booted_of_setup parts.setup) kernel regs (call_of (reg regs 0)) in
     ComesTo parts kernel regs reader lane before after decided
 
 -- the kernel's call that goes on is given just this, by what is read of the lane
@@ -67,13 +67,13 @@ IsGiven parts regs lane before after (decision.GoesOn decided) =
 pub record CanBegin (parts : Parts) (entered : Entered) (plan : Plan) : Type 0 where
   pub lowest : lowest_free parts.slots ≡ Some entered.slot
   pub pins : CanPin (tables_of parts.tables) entered
-  pub applies : CanApply (call_with (booted_with parts.setup) (tables_of parts.tables) entered) plan
+  pub applies : CanApply (call_with (booted_of_setup parts.setup) (tables_of parts.tables) entered) plan
 
 -- a call is suspended that can be resumed with this, and its application is the one that was found
 pub record CanContinue (parts : Parts) (regs : List ℕ) (decided : Decided) : Type 0 where
   pub suspended : IsSuspended parts.slots regs
   pub slot : decided.slot ≡ thread_in regs
-  pub app : IsAppIn (booted_with parts.setup) parts.slots regs (Some decided)
+  pub app : IsAppIn (booted_of_setup parts.setup) parts.slots regs (Some decided)
 
 -- what was found for what was decided
 abbrev pub HasFound : Parts → List ℕ → EntryDecision → Type 0

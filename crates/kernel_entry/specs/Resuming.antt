@@ -7,7 +7,7 @@ use Rattle.kernel_model.specs.Given.{Given}
 use Rattle.kernel_model.specs.Kernel.{PendingCall, Progress}
 use Rattle.kernel_model.specs.Resume.{onward_of, resumed_call}
 use Rattle.kernel_state.specs.Calls.{IsCall}
-use Rattle.kernel_state.specs.Setup.{boot_of, booted_with}
+use Rattle.kernel_state.specs.Setup.{boot_of, booted_of_setup}
 use Rattle.kernel_state.specs.Tables.{HasFreePages, tables_of}
 use Rattle.kernel_state.specs.declared.cancellation.Cancellation.{Cancellation}
 use Rattle.kernel_state.specs.declared.parts.Parts.{Parts}
@@ -36,7 +36,7 @@ resumed_as regs beside decided =
 abbrev pub IsResumable : Parts → List ℕ → Decided → Type 0
 IsResumable parts regs decided = (cont : Box (Cont (List ℕ))) (beside : Cancellation) →
     IsHandedOut parts.slots regs cont → slice_get parts.cancellations.items (thread_in regs) ≡ Some beside →
-    ∥ CanResume (booted_with parts.setup) (tables_of parts.tables) (resumed_as regs beside decided) cont.value ∥₁
+    ∥ CanResume (booted_of_setup parts.setup) (tables_of parts.tables) (resumed_as regs beside decided) cont.value ∥₁
 
 -- the call that these registers name can go on with this
 pub record CanGoOn (parts : Parts) (regs : List ℕ) (decided : Decided) : Type 0 where
@@ -44,7 +44,7 @@ pub record CanGoOn (parts : Parts) (regs : List ℕ) (decided : Decided) : Type 
   pub slot : decided.slot ≡ thread_in regs
   pub beside : thread_in regs < length parts.cancellations.items
   pub resumable : IsResumable parts regs decided
-  pub app : IsAppIn (booted_with parts.setup) parts.slots regs (Some decided)
+  pub app : IsAppIn (booted_of_setup parts.setup) parts.slots regs (Some decided)
   pub is_boot : IsBoot (boot_of parts.setup)
   pub pages : HasFreePages parts.setup parts.tables
 
@@ -52,7 +52,7 @@ pub record CanGoOn (parts : Parts) (regs : List ℕ) (decided : Decided) : Type 
 abbrev pub goes_on_as : Parts → List ℕ → Decided → PendingCall → Progress
 goes_on_as parts regs decided call =
     let given : Given = given_as decided.given in
-    onward_of (resumed_call (booted_with parts.setup) (tables_of parts.tables) (thread_in regs) call given)
+    onward_of (resumed_call (booted_of_setup parts.setup) (tables_of parts.tables) (thread_in regs) call given)
 
 -- the call that is handed out, as what stands beside its slot says, has come to this
 abbrev pub HasGoneOn : Parts → List ℕ → Decided → Tables → Cont (List ℕ) → Type 0

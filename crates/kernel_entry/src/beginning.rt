@@ -3,7 +3,7 @@ ghost use Rattle.std.specs.Prelude.{◌≡◌, ◌+◌, ◌<◌, ◌^◌, Some, 
 ghost use Rattle.event_journal.specs.Journal.{copied_bytes};
 ghost use Rattle.kernel_model.specs.Decision.{Takes};
 ghost use Rattle.kernel_model.specs.Kernel.{Kernel};
-ghost use Rattle.kernel_state.specs.Setup.{booted_with};
+ghost use Rattle.kernel_state.specs.Setup.{booted_of_setup};
 ghost use Rattle.kernel_state.specs.Tables.{tables_of};
 ghost use Rattle.kernel_state.specs.Work.{IsCarriedAs};
 ghost use Rattle.new_calls.specs.Applying.{CanApply};
@@ -48,11 +48,11 @@ pub fn enter_new(
     requires plan { CanTake parts.old.tables call.value.entered call.value.plan }
     requires blank { 0 < parts.old.blanks.kept }
     ensures come { HasComeIn parts.old parts.new visitor reads }
-    ensures stands { CanApply (call_with (booted_with parts.old.setup) (tables_of parts.old.tables) call.value.entered) call.value.plan
+    ensures stands { CanApply (call_with (booted_of_setup parts.old.setup) (tables_of parts.old.tables) call.value.entered) call.value.plan
         → (kernel : Kernel) → StandsAfter parts.old parts.new visitor kernel (Takes call.value.entered.slot
-        (taken_of (call_with (booted_with parts.old.setup) (tables_of parts.old.tables) call.value.entered) call.value.plan)) }
-    ensures carries { CanApply (call_with (booted_with parts.old.setup) (tables_of parts.old.tables) call.value.entered) call.value.plan
-        → (let taken = taken_of (call_with (booted_with parts.old.setup) (tables_of parts.old.tables) call.value.entered) call.value.plan in
+        (taken_of (call_with (booted_of_setup parts.old.setup) (tables_of parts.old.tables) call.value.entered) call.value.plan)) }
+    ensures carries { CanApply (call_with (booted_of_setup parts.old.setup) (tables_of parts.old.tables) call.value.entered) call.value.plan
+        → (let taken = taken_of (call_with (booted_of_setup parts.old.setup) (tables_of parts.old.tables) call.value.entered) call.value.plan in
         IsCarriedAs result taken.call taken.call.phase) }
 {
     let PlannedCall { entered, plan } = Box::into_inner(call);
@@ -76,11 +76,11 @@ fn enter_with(
     requires plan { CanTake parts.old.tables entered plan }
     requires blank { 0 < parts.old.blanks.kept }
     ensures come { HasComeIn parts.old parts.new visitor reads }
-    ensures stands { CanApply (call_with (booted_with parts.old.setup) (tables_of parts.old.tables) entered) plan
+    ensures stands { CanApply (call_with (booted_of_setup parts.old.setup) (tables_of parts.old.tables) entered) plan
         → (kernel : Kernel) → StandsAfter parts.old parts.new visitor kernel (Takes entered.slot
-        (taken_of (call_with (booted_with parts.old.setup) (tables_of parts.old.tables) entered) plan)) }
-    ensures carries { CanApply (call_with (booted_with parts.old.setup) (tables_of parts.old.tables) entered) plan
-        → (let taken = taken_of (call_with (booted_with parts.old.setup) (tables_of parts.old.tables) entered) plan in
+        (taken_of (call_with (booted_of_setup parts.old.setup) (tables_of parts.old.tables) entered) plan)) }
+    ensures carries { CanApply (call_with (booted_of_setup parts.old.setup) (tables_of parts.old.tables) entered) plan
+        → (let taken = taken_of (call_with (booted_of_setup parts.old.setup) (tables_of parts.old.tables) entered) plan in
         IsCarriedAs result taken.call taken.call.phase) }
 {
     let slot = entered.slot;

@@ -3,7 +3,7 @@ ghost use Rattle.std.specs.Prelude.{◌≡◌, IfOk};
 ghost use Rattle.kernel_model.specs.Kernel.{Kernel};
 ghost use Rattle.kernel_model.specs.NewCall.{new_call};
 ghost use Rattle.kernel_model.specs.Resume.{resume};
-ghost use Rattle.kernel_state.specs.Setup.{booted_with};
+ghost use Rattle.kernel_state.specs.Setup.{booted_of_setup};
 ghost use Rattle.kernel_state.specs.StandsFor.{StandsFor};
 ghost use Rattle.kernel_state.specs.Tables.{HasFreePages, tables_of};
 ghost use Rattle.new_calls.specs.Applying.{HaveApps};
@@ -46,7 +46,7 @@ pub(crate) fn decide(
 ) -> Result<EntryDecision, NoMemory>
     requires call { ∥ CanDecide parts.now.slots regs.now.a ∥₁ }
     requires pages { HasFreePages parts.now.setup parts.now.tables }
-    requires apps { HaveApps (booted_with parts.now.setup) (tables_of parts.now.tables) }
+    requires apps { HaveApps (booted_of_setup parts.now.setup) (tables_of parts.now.tables) }
     ensures decides { (kernel : Kernel) → StandsFor parts.now kernel
         → IfOk result (IsDecided parts.now kernel regs.now.a lane.now reads.old reads.new) }
     ensures given { IfOk result (IsGiven parts.now regs.now.a lane.now reads.old reads.new) }
@@ -75,9 +75,9 @@ fn decide_new(
     reads: &mut Reads,
 ) -> Result<EntryDecision, NoMemory>
     requires pages { HasFreePages parts.now.setup parts.now.tables }
-    requires apps { HaveApps (booted_with parts.now.setup) (tables_of parts.now.tables) }
+    requires apps { HaveApps (booted_of_setup parts.now.setup) (tables_of parts.now.tables) }
     ensures decides { (kernel : Kernel) → StandsFor parts.now kernel
-        → IfOk result (ComesTo parts.now kernel regs.now.a (new_call (booted_with parts.now.setup) kernel regs.now.a)
+        → IfOk result (ComesTo parts.now kernel regs.now.a (new_call (booted_of_setup parts.now.setup) kernel regs.now.a)
         lane.now reads.old reads.new) }
     ensures given { IfOk result (IsGiven parts.now regs.now.a lane.now reads.old reads.new) }
     ensures found { IfOk result (HasFound parts.now regs.now.a) }
@@ -109,7 +109,7 @@ fn decide_resume(
 ) -> Result<EntryDecision, NoMemory>
     requires { ∥ CanDecide parts.now.slots regs.now.a ∥₁ }
     ensures decides { (kernel : Kernel) → StandsFor parts.now kernel
-        → IfOk result (ComesTo parts.now kernel regs.now.a (resume (booted_with parts.now.setup) kernel regs.now.a)
+        → IfOk result (ComesTo parts.now kernel regs.now.a (resume (booted_of_setup parts.now.setup) kernel regs.now.a)
         lane.now reads.old reads.new) }
     ensures given { IfOk result (IsGiven parts.now regs.now.a lane.now reads.old reads.new) }
     ensures found { IfOk result (HasFound parts.now regs.now.a) }

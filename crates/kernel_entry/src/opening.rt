@@ -5,7 +5,7 @@ ghost use Rattle.begin_call.specs.Begins.{brought, who_begins};
 ghost use Rattle.kernel_model.specs.Application.{Booted, uuid_of};
 ghost use Rattle.kernel_model.specs.Instances.{app_of, shared_instance};
 ghost use Rattle.kernel_model.specs.NewCall.{opens_or_waits};
-ghost use Rattle.kernel_state.specs.Setup.{application_of, booted_with};
+ghost use Rattle.kernel_state.specs.Setup.{application_of, booted_of_setup};
 ghost use Rattle.kernel_state.specs.Tables.{HasFreePages, tables_of};
 ghost use Rattle.kernel_state.specs.declared.setup.Setup.{Setup as AnySetup};
 ghost use Rattle.new_calls.specs.Applying.{AreRegistered};
@@ -53,7 +53,7 @@ fn open_or_wait(tables: &mut Tables, cont: &mut Cont<Pages>, call: OpenCall)
         (open_comes (who_begins boot tables.old call.slot cont.old) (brought call cont.old)
         (shared_instance (tables_of tables.old).instances (application_of call.app))) }
     ensures pages { (setup : AnySetup)
-        → app_of (booted_with setup) (uuid_of (application_of call.app)) ≡ Some (application_of call.app)
+        → app_of (booted_of_setup setup) (uuid_of (application_of call.app)) ≡ Some (application_of call.app)
         → HasFreePages setup tables.old → HasFreePages setup tables.new }
 {
     match shared_instance(tables, &call.app) {
@@ -82,7 +82,7 @@ pub(crate) fn apply_open(
         (opens_or_waits (call_found boot (tables_of tables.old) entered.now) (asked_by (application_of app) login)
         (application_of app) (copies_in copies)) }
     ensures pages { (setup : AnySetup)
-        → app_of (booted_with setup) (uuid_of (application_of app)) ≡ Some (application_of app)
+        → app_of (booted_of_setup setup) (uuid_of (application_of app)) ≡ Some (application_of app)
         → HasFreePages setup tables.old → HasFreePages setup tables.new }
 {
     let TakenParams {

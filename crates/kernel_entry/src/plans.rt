@@ -4,7 +4,7 @@ ghost use Rattle.std.specs.Option.{ForSome};
 ghost use Rattle.base.specs.NumberMap.{get};
 ghost use Rattle.kernel_model.specs.Application.{Booted};
 ghost use Rattle.kernel_model.specs.Located.{pins_with};
-ghost use Rattle.kernel_state.specs.Setup.{booted_with};
+ghost use Rattle.kernel_state.specs.Setup.{booted_of_setup};
 ghost use Rattle.kernel_state.specs.Tables.{HasFreePages, tables_of};
 ghost use Rattle.kernel_state.specs.declared.setup.Setup.{Setup as AnySetup};
 ghost use Rattle.new_calls.specs.Applying.{CanApply};
@@ -39,7 +39,7 @@ pub fn apply(
         → IsTaken (meant_by entered.now plan) entered.now tables.new cont.new
         (taken_of (call_with boot (tables_of tables.old) entered.now) plan) }
     ensures pages { (setup : AnySetup)
-        → CanApply (call_with (booted_with setup) (tables_of tables.old) entered.now) plan
+        → CanApply (call_with (booted_of_setup setup) (tables_of tables.old) entered.now) plan
         → HasFreePages setup tables.old → HasFreePages setup tables.new }
 {
     pin_argument(&mut tables.registry, entered);
@@ -70,7 +70,7 @@ fn apply_plan(
         → IsTaken (meant_by entered.now plan) entered.now tables.new cont.new
         (taken_of (call_found boot (tables_of tables.old) entered.now) plan) }
     ensures pages { (setup : AnySetup)
-        → CanApply (call_found (booted_with setup) (tables_of tables.old) entered.now) plan
+        → CanApply (call_found (booted_of_setup setup) (tables_of tables.old) entered.now) plan
         → HasFreePages setup tables.old → HasFreePages setup tables.new }
 {
     match plan {

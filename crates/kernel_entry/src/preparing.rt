@@ -1,7 +1,7 @@
 //! What is prepared before a processor comes in.
 ghost use Rattle.std.specs.Prelude.{◌≡◌, ◌≤◌, OnOk};
 ghost use Rattle.event_journal.specs.Journal.{copied_bytes};
-ghost use Rattle.kernel_state.specs.Setup.{booted_with};
+ghost use Rattle.kernel_state.specs.Setup.{booted_of_setup};
 ghost use Rattle.kernel_state.specs.Tables.{HasFreePages, tables_of};
 ghost use Rattle.new_calls.specs.Applying.{HaveApps};
 ghost use Rattle.ns_ram.specs.Reads.{total_bytes};
@@ -36,7 +36,7 @@ pub(crate) fn prepare_parts(
     requires few { copied_bytes parts.old.journal.events ≤ parts.old.setup.terms.most }
     requires call { ∥ CanDecide parts.old.slots regs.now.a ∥₁ }
     requires pages { HasFreePages parts.old.setup parts.old.tables }
-    requires apps { HaveApps (booted_with parts.old.setup) (tables_of parts.old.tables) }
+    requires apps { HaveApps (booted_of_setup parts.old.setup) (tables_of parts.old.tables) }
     ensures prepares { Prepares parts.new regs.now.a lane.now result }
     ensures room { HasMoreRoom parts.old parts.new }
 {

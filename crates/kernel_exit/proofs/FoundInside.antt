@@ -12,7 +12,7 @@ use Rattle.kernel_model.proofs.Parts.{option_map_some}
 use Rattle.kernel_state.specs.Calls.{IsCall}
 use Rattle.kernel_state.specs.Processors.{errand_of, processor_of}
 use Rattle.kernel_state.specs.Replay.{Replays}
-use Rattle.kernel_state.specs.Setup.{booted_with}
+use Rattle.kernel_state.specs.Setup.{booted_of_setup}
 use Rattle.kernel_state.specs.StandsFor.{IsSlotAt, StandsFor}
 use Rattle.kernel_state.specs.Tables.{HasFreePages, tables_of}
 use Rattle.kernel_state.specs.Work.{IsCarriedAs, IsCarriedFor, IsCarriedIn, IsCarriedOn, IsRanFor, IsRanOf, IsWorkIn}
@@ -40,21 +40,21 @@ use Rattle.kernel_exit.specs.GoingOut.{IsCarriedOut, IsInside, IsInsideFor, call
 -- the kernel that the events come to, for which the processor went to work
 pub record Found (parts : Parts) (ran : Ran) : Type 0 where
   pub kernel : model.Kernel
-  pub comes : kernel_after (booted_with parts.setup) parts.journal.events ≡ Some kernel
+  pub comes : kernel_after (booted_of_setup parts.setup) parts.journal.events ≡ Some kernel
   pub is : IsRanFor kernel ran
 
 pub found : (parts : Parts) (ran : Ran) →
-    IsSomeAnd (kernel_after (booted_with parts.setup) parts.journal.events) (λ kernel. IsRanFor kernel ran) → Found parts ran
-found parts ran can = by (kernel_after (booted_with parts.setup) parts.journal.events) refl can
+    IsSomeAnd (kernel_after (booted_of_setup parts.setup) parts.journal.events) (λ kernel. IsRanFor kernel ran) → Found parts ran
+found parts ran can = by (kernel_after (booted_of_setup parts.setup) parts.journal.events) refl can
   where
-    by : (kernel : Option model.Kernel) → kernel_after (booted_with parts.setup) parts.journal.events ≡ kernel →
+    by : (kernel : Option model.Kernel) → kernel_after (booted_of_setup parts.setup) parts.journal.events ≡ kernel →
         IsSomeAnd kernel (λ kernel. IsRanFor kernel ran) → Found parts ran
     by None e can = absurd can
     by (Some kernel) e can = record { kernel = kernel; comes = e; is = can }
 
 -- the parts stand for it
 pub stands_for : (parts : Parts) (kernel : model.Kernel) → ∥ Replays parts ∥₁ →
-    kernel_after (booted_with parts.setup) parts.journal.events ≡ Some kernel → ∥ StandsFor parts kernel ∥₁
+    kernel_after (booted_of_setup parts.setup) parts.journal.events ≡ Some kernel → ∥ StandsFor parts kernel ∥₁
 stands_for parts kernel fact comes = ∥∥₁_map fact (λ (so : Replays parts).
     subst (λ (k : model.Kernel). StandsFor parts k) (same_Some so.kernel kernel (sym so.comes_to ∙ comes)) so.stands)
 
@@ -121,10 +121,10 @@ inside_core Outside regs steps errand is = absurd cc
 inside_core (Inside came granted its) regs steps errand is = tt
 
 pub is_inside : (parts : Parts) (ran : Ran) → ∥ Replays parts ∥₁ →
-    ∥ IsSomeAnd (kernel_after (booted_with parts.setup) parts.journal.events) (λ kernel. IsRanFor kernel ran) ∥₁ →
+    ∥ IsSomeAnd (kernel_after (booted_of_setup parts.setup) parts.journal.events) (λ kernel. IsRanFor kernel ran) ∥₁ →
     IsSomeAnd (slice_get parts.processors.items ran.cpu) IsInside
 is_inside parts ran fact can = ∥∥₁_elim can (inside_prop (slice_get parts.processors.items ran.cpu))
-    (λ (is : IsSomeAnd (kernel_after (booted_with parts.setup) parts.journal.events) (λ kernel. IsRanFor kernel ran)).
+    (λ (is : IsSomeAnd (kernel_after (booted_of_setup parts.setup) parts.journal.events) (λ kernel. IsRanFor kernel ran)).
     let f = found parts ran is in
     let so = goes_out_so f.kernel ran f.is in
     let core = core_processor parts.processors.items f.kernel.processors ran.cpu _

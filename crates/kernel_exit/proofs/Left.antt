@@ -26,7 +26,7 @@ use Rattle.kernel_state.specs.Leaving.{HasLeft}
 use Rattle.kernel_state.specs.Meaning.{booted_of, events_of, terms_of}
 use Rattle.kernel_state.specs.Processors.{errand_of, processor_of}
 use Rattle.kernel_state.specs.Replay.{Replays}
-use Rattle.kernel_state.specs.Setup.{boot_of, booted_with, natives_of}
+use Rattle.kernel_state.specs.Setup.{boot_of, booted_of_setup, natives_of}
 use Rattle.kernel_state.specs.StandsFor.{StandsFor}
 use Rattle.kernel_state.specs.Tables.{tables_of}
 use Rattle.kernel_state.specs.Work.{IsRanFor}
@@ -60,12 +60,12 @@ use Rattle.kernel_exit.proofs.StandsAfter.{agree_behind, comes_behind, few_behin
 
 -- the call is carried, and the kernel's events came to this
 abbrev pub CanGo : Parts → Ran → Type 0
-CanGo parts ran = IsSomeAnd (kernel_after (booted_with parts.setup) parts.journal.events) (λ kernel. IsRanFor kernel ran)
+CanGo parts ran = IsSomeAnd (kernel_after (booted_of_setup parts.setup) parts.journal.events) (λ kernel. IsRanFor kernel ran)
 
 pub record Goes (parts : Parts) (ran : Ran) (came : Regs) (errand : Errand) : Type 0 where
   pub kernel : model.Kernel
-  pub comes : kernel_after (booted_with parts.setup) parts.journal.events ≡ Some kernel
-  pub booted : IsBooted (booted_with parts.setup)
+  pub comes : kernel_after (booted_of_setup parts.setup) parts.journal.events ≡ Some kernel
+  pub booted : IsBooted (booted_of_setup parts.setup)
   pub stands : ∥ StandsFor parts kernel ∥₁
   pub goes : GoesOut kernel ran came.a (errand_of errand)
 
@@ -101,15 +101,15 @@ next_asks parts ran came slot its call active exits asking wanted payload is =
     let visit : model.Visit = record { cpu = ran.cpu; regs = came.a; steps = its.goes.steps } in
     let exited : Exited = goes_out_from its.kernel visit slot exits.progress in
     let told : Regs = record { a = exited.regs } in
-    calls_fit (booted_with parts.setup) (parts.journal.events ++ Exit ran.cpu told ∷ []) exited.kernel its.booted
-    (comes_behind (booted_with parts.setup) parts.journal.events its.kernel ran.cpu told exited its.comes exits.exits refl)
+    calls_fit (booted_of_setup parts.setup) (parts.journal.events ++ Exit ran.cpu told ∷ []) exited.kernel its.booted
+    (comes_behind (booted_of_setup parts.setup) parts.journal.events its.kernel ran.cpu told exited its.comes exits.exits refl)
     slot (unmarked exits.progress.call)
     (asks_there its.kernel.slots slot (model.Active ran.cpu call) exits.progress.call asking wanted payload active is)
 
 pub goes_from_slot : (parts : Parts) (ran : Ran) (came : Regs) (slot : ℕ) → Goes parts ran came (InSlot slot) → GoesFromSlot parts ran came slot
 goes_from_slot parts ran came slot its =
     let carries = carries_it its.kernel ran came.a slot its.goes in
-    let boot = booted_with parts.setup in
+    let boot = booted_of_setup parts.setup in
     let exits = exits_from boot parts.journal.events its.kernel ran.cpu slot its.goes.steps came.a carries.call its.booted its.comes its.goes.inside carries.active in
     let stays = stays_so its.kernel.tables carries.call its.goes.steps exits.progress exits.comes in
     let has : HasItsPlaces (unmarked carries.call) =
@@ -137,8 +137,8 @@ can_go parts ran came slot so =
     let same : so.its.kernel.tables ≡ tables_of parts.tables = sym (tables_are parts so.its.kernel so.its.stands) in
     subst (λ (carried : Option (Box (Cont (List ℕ)))). IsSomeAnd carried (λ cont. CanGoFrom parts slot cont.value ran.stop)) (sym so.carries.there) (record {
       active = is_active parts so.its.kernel slot ran.cpu so.carries.call so.its.stands so.carries.active;
-      can = subst (λ (tables : model.Tables). CanCome (booted_with parts.setup) tables so.carries.cont.value ran.stop) same
-          (can_come (booted_with parts.setup) parts.journal.events so.its.kernel ran.cpu slot so.carries.call so.carries.cont.value ran.stop so.its.goes.steps
+      can = subst (λ (tables : model.Tables). CanCome (booted_of_setup parts.setup) tables so.carries.cont.value ran.stop) same
+          (can_come (booted_of_setup parts.setup) parts.journal.events so.its.kernel ran.cpu slot so.carries.call so.carries.cont.value ran.stop so.its.goes.steps
           so.its.booted so.its.comes so.carries.active so.carries.is);
       pages = pages_are parts so.its.kernel so.its.stands;
       call = ∣ subst (λ (tables : model.Tables). CarriesCall tables slot so.carries.cont.value ran.stop) same (record {
@@ -186,14 +186,14 @@ pub record IsOut (mid new : Parts) (cpu : ℕ) (told : Regs) : Type 0 where
 -- the core replays its events where its parts stand for the kernel behind the exit
 replays_behind : (old new : Parts) (kernel : model.Kernel) (cpu : ℕ) (told : Regs) (exited : Exited) → new.setup ≡ old.setup →
     new.journal.events ≡ old.journal.events ++ Exit cpu told ∷ [] → new.journal.keeps ≡ old.journal.keeps →
-    kernel_after (booted_with old.setup) old.journal.events ≡ Some kernel → exit kernel cpu ≡ Some exited → told.a ≡ exited.regs → Replays old → StandsFor new exited.kernel → Replays new
+    kernel_after (booted_of_setup old.setup) old.journal.events ≡ Some kernel → exit kernel cpu ≡ Some exited → told.a ≡ exited.regs → Replays old → StandsFor new exited.kernel → Replays new
 replays_behind old new kernel cpu told exited setup events keeps comes is same so stands = record {
   kernel = exited.kernel;
   is_boot = subst (λ (s : Setup). IsBoot (boot_of s)) (sym setup) so.is_boot;
   are_natives = subst (λ (s : Setup). AreNatives (boot_of s) (natives_of s)) (sym setup) so.are_natives;
-  comes_to = subst (λ (s : Setup). kernel_after (booted_with s) new.journal.events ≡ Some exited.kernel) (sym setup)
-      (subst (λ (all : List Event). kernel_after (booted_with old.setup) all ≡ Some exited.kernel) (sym events)
-      (comes_behind (booted_with old.setup) old.journal.events kernel cpu told exited comes is same));
+  comes_to = subst (λ (s : Setup). kernel_after (booted_of_setup s) new.journal.events ≡ Some exited.kernel) (sym setup)
+      (subst (λ (all : List Event). kernel_after (booted_of_setup old.setup) all ≡ Some exited.kernel) (sym events)
+      (comes_behind (booted_of_setup old.setup) old.journal.events kernel cpu told exited comes is same));
   stands = stands;
   keeps = keeps ∙ so.keeps ∙ ap (λ (s : Setup). s.terms.keeps) (sym setup);
   few = subst (λ (s : Setup). copied_bytes new.journal.events ≤ s.terms.most) (sym setup)
@@ -219,7 +219,7 @@ fixed_replays old new ran came told answer fact so encoded out = ∥∥₁_map�
 fixed_left : (old new : Core) (ran : Ran) (came told : Regs) (answer : Answer) (lane : List ℕ) → Goes old.parts ran came (Fixed answer) →
     told.a ≡ registers_of answer came.a → IsOut old.parts new.parts ran.cpu told → HasLeft old new ran lane lane told
 fixed_left old new ran came told answer lane so encoded out = record {
-  boot = ap (λ (p : Parts). booted_with p.setup) out.stays;
+  boot = ap (λ (p : Parts). booted_of_setup p.setup) out.stays;
   terms = ap (λ (p : Parts). p.setup.terms) out.stays;
   events = ap (λ (j : Contents). j.events) out.journal;
   exited = goes_out so.kernel (record { cpu = ran.cpu; regs = came.a; steps = so.goes.steps }) answer [];
@@ -263,7 +263,7 @@ slot_left_so : (old new : Core) (mid : Parts) (ran : Ran) (came told : Regs) (sl
 slot_left_so old new mid ran came told slot lane now answer so left stays encoded out =
     let gone = gone_progress old.parts mid ran came slot so lane now answer left in
     record {
-      boot = ap (λ (p : Parts). booted_with p.setup) out.stays ∙ ap (λ (p : Parts). booted_with p.setup) stays;
+      boot = ap (λ (p : Parts). booted_of_setup p.setup) out.stays ∙ ap (λ (p : Parts). booted_of_setup p.setup) stays;
       terms = ap (λ (p : Parts). p.setup.terms) out.stays ∙ ap (λ (p : Parts). p.setup.terms) stays;
       events = ap (λ (j : Contents). j.events) out.journal ∙ ap (λ (p : Parts). p.journal.events ++ Exit ran.cpu told ∷ []) stays;
       exited = goes_out_from so.its.kernel (record { cpu = ran.cpu; regs = came.a; steps = so.its.goes.steps }) slot so.exits.progress;
@@ -332,7 +332,7 @@ pub left_after : (old new : Core) (mid : Parts) (ran : Ran) (came told : Regs) (
     mid ≡ record old.parts { slots = mid.slots; tables = mid.tables; blanks = mid.blanks } → told.a ≡ registers_of answer came.a → IsOut mid new.parts ran.cpu told →
     HasLeft old new ran lane now told
 left_after old new mid ran came told errand lane now answer its exited stays encoded out =
-    left_so old new ran lane now told (ap (λ (p : Parts). booted_with p.setup) out.stays ∙ ap (λ (p : Parts). booted_with p.setup) stays)
+    left_so old new ran lane now told (ap (λ (p : Parts). booted_of_setup p.setup) out.stays ∙ ap (λ (p : Parts). booted_of_setup p.setup) stays)
     (ap (λ (p : Parts). p.setup.terms) out.stays ∙ ap (λ (p : Parts). p.setup.terms) stays)
     (ap (λ (j : Contents). j.events) out.journal ∙ ap (λ (p : Parts). p.journal.events ++ Exit ran.cpu told ∷ []) stays)
     (∥∥₁_map its (λ (goes : Goes old.parts ran came errand). left_by old new mid ran came told errand lane now answer goes exited stays encoded out))

@@ -12,7 +12,7 @@ use Rattle.kernel_model.specs.Leaving.{leaving_of}
 use Rattle.kernel_model.specs.Leaving as model
 use Rattle.kernel_state.specs.Calls.{IsCall}
 use Rattle.kernel_state.specs.StandsFor.{IsBeside}
-use Rattle.kernel_state.specs.Setup.{booted_with}
+use Rattle.kernel_state.specs.Setup.{booted_of_setup}
 use Rattle.kernel_state.specs.Tables.{HasFreePages, tables_of}
 use Rattle.kernel_state.specs.Work.{HasRun}
 use Rattle.kernel_state.specs.declared.cancellation.Cancellation.{Cancellation}
@@ -97,7 +97,7 @@ pub record CarriesCall (tables : Tables) (slot : ℕ) (cont : Cont (List ℕ)) (
 -- the slot is active, and what the call comes to finds what it needs, and can be told
 pub record CanGoFrom (parts : Parts) (slot : ℕ) (cont : Cont (List ℕ)) (why : Option ContStop) : Type 0 where
   pub active : IsActiveAt parts.slots slot
-  pub can : CanCome (booted_with parts.setup) (tables_of parts.tables) cont why
+  pub can : CanCome (booted_of_setup parts.setup) (tables_of parts.tables) cont why
   pub pages : HasFreePages parts.setup parts.tables
   pub call : ∥ CarriesCall (tables_of parts.tables) slot cont why ∥₁
 

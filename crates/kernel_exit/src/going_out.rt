@@ -5,7 +5,7 @@ ghost use Rattle.event_journal.specs.declared.event.Event.TheVariants.{Exit};
 ghost use Rattle.kernel_model.specs.Exit.{progress_in};
 ghost use Rattle.kernel_model.specs.Kernel.{PendingCall};
 ghost use Rattle.kernel_state.specs.Leaving.{CanLeave, HasLeft};
-ghost use Rattle.kernel_state.specs.Setup.{booted_with};
+ghost use Rattle.kernel_state.specs.Setup.{booted_of_setup};
 ghost use Rattle.kernel_state.specs.Tables.{HasFreePages, tables_of};
 ghost use Rattle.kernel_exit.specs.Ending.{HasComeTo};
 ghost use Rattle.kernel_exit.specs.GoingOut.{CanCome, CanExitWith, CanGoFrom, HasExitedWith, HasGoneFrom, IsCarriedOut, IsInside, IsInsideFor, call_carried};
@@ -43,7 +43,7 @@ fn call_carried(call: Carried) -> Box<Cont<Pages>>
 
 /// What the call comes to, by why it stopped, if it ran, with the tables as they then are.
 fn comes_to(setup: &Setup, tables: &mut Tables, cont: &mut Cont<Pages>, why: Option<ContStop>)
-    requires can { CanCome (booted_with setup.now) (tables_of tables.old) cont.old why }
+    requires can { CanCome (booted_of_setup setup.now) (tables_of tables.old) cont.old why }
     requires pages { HasFreePages setup.now tables.old }
     ensures comes { (call : PendingCall) (steps : ℕ) → IsCarriedOut cont.old why call steps
         → IsSomeAnd (progress_in (tables_of tables.old) call steps call.phase) (λ progress. HasComeTo progress cont.new tables.new) }

@@ -6,7 +6,7 @@ ghost use Rattle.kernel_model.specs.Instances.{given_back, killed};
 ghost use Rattle.kernel_model.specs.Kernel.{PendingCall};
 ghost use Rattle.kernel_model.specs.Sessions.{has_opened};
 ghost use Rattle.kernel_state.specs.Calls.{bytes_of};
-ghost use Rattle.kernel_state.specs.Setup.{booted_with};
+ghost use Rattle.kernel_state.specs.Setup.{booted_of_setup};
 ghost use Rattle.kernel_state.specs.Tables.{HasFreePages, tables_of};
 ghost use Rattle.rpc_cont.specs.Conts.{kept_memory};
 ghost use Rattle.kernel_exit.specs.Ending.{CanBeGivenBack, CanBeRemoved, with_changed, without_instance};
@@ -28,7 +28,7 @@ fn release(pool: &mut Pool, memory: Option<Pages>)
 
 /// Takes an instance away that no call holds. Its pages go back to the pool.
 fn remove_instance(setup: &Setup, tables: &mut Tables, number: u32)
-    requires free { CanBeRemoved (booted_with setup.now) (tables_of tables.old).instances number }
+    requires free { CanBeRemoved (booted_of_setup setup.now) (tables_of tables.old).instances number }
     requires pages { HasFreePages setup.now tables.old }
     ensures tables { tables_of tables.new ≡ without_instance (tables_of tables.old) number }
     ensures pages { HasFreePages setup.now tables.new }
@@ -45,12 +45,12 @@ fn put_back(
     memory: Option<Pages>,
     objects: &mut Handles,
 )
-    requires held { CanBeGivenBack (booted_with setup.now) (tables_of tables.old).instances number (length (kept_memory bytes_of memory)) }
+    requires held { CanBeGivenBack (booted_of_setup setup.now) (tables_of tables.old).instances number (length (kept_memory bytes_of memory)) }
     requires pages { HasFreePages setup.now tables.old }
     ensures tables { tables_of tables.new ≡ with_changed (tables_of tables.old) number (given_back (kept_memory bytes_of memory) objects.old) }
     ensures objects { objects.new ≡ [] }
     ensures pages { HasFreePages setup.now tables.new }
-    ensures free { CanBeRemoved (booted_with setup.now) (tables_of tables.new).instances number }
+    ensures free { CanBeRemoved (booted_of_setup setup.now) (tables_of tables.new).instances number }
 {
     if tables.is_dead(number) {
         release(&mut tables.pool, memory);
@@ -62,11 +62,11 @@ fn put_back(
 
 /// Puts an instance back of which nothing is left: it is dead. Its pages go back to the pool.
 fn put_back_dead(setup: &Setup, tables: &mut Tables, number: u32, memory: Option<Pages>)
-    requires held { CanBeGivenBack (booted_with setup.now) (tables_of tables.old).instances number (length (kept_memory bytes_of memory)) }
+    requires held { CanBeGivenBack (booted_of_setup setup.now) (tables_of tables.old).instances number (length (kept_memory bytes_of memory)) }
     requires pages { HasFreePages setup.now tables.old }
     ensures tables { tables_of tables.new ≡ with_changed (tables_of tables.old) number killed }
     ensures pages { HasFreePages setup.now tables.new }
-    ensures free { CanBeRemoved (booted_with setup.now) (tables_of tables.new).instances number }
+    ensures free { CanBeRemoved (booted_of_setup setup.now) (tables_of tables.new).instances number }
 {
     tables.instances.kill(number);
     release(&mut tables.pool, memory);
@@ -89,7 +89,7 @@ pub(crate) fn give_back(
     memory: Option<Pages>,
     objects: &mut Handles,
 )
-    requires held { CanBeGivenBack (booted_with setup.now) (tables_of tables.old).instances number (length (kept_memory bytes_of memory)) }
+    requires held { CanBeGivenBack (booted_of_setup setup.now) (tables_of tables.old).instances number (length (kept_memory bytes_of memory)) }
     requires pages { HasFreePages setup.now tables.old }
     ensures tables { (call : PendingCall) → call.instance ≡ number → tables_of tables.new
         ≡ gives_back (tables_of tables.old) call (tables_of tables.old).sessions is_last (given_back (kept_memory bytes_of memory) objects.old) }
@@ -106,7 +106,7 @@ pub(crate) fn give_back(
 
 /// A call that has panicked gives its instance back, which is dead.
 pub(crate) fn give_back_dead(setup: &Setup, tables: &mut Tables, number: u32, memory: Option<Pages>)
-    requires held { CanBeGivenBack (booted_with setup.now) (tables_of tables.old).instances number (length (kept_memory bytes_of memory)) }
+    requires held { CanBeGivenBack (booted_of_setup setup.now) (tables_of tables.old).instances number (length (kept_memory bytes_of memory)) }
     requires pages { HasFreePages setup.now tables.old }
     ensures tables { (call : PendingCall) → call.instance ≡ number → tables_of tables.new
         ≡ gives_back (tables_of tables.old) call (tables_of tables.old).sessions false killed }

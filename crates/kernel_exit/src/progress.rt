@@ -5,7 +5,7 @@ ghost use Rattle.base.specs.NumberMap.{get};
 ghost use Rattle.kernel_model.specs.Exit.{woken_by};
 ghost use Rattle.kernel_model.specs.Kernel.{PendingCall};
 ghost use Rattle.kernel_state.specs.Calls.{woken_slot};
-ghost use Rattle.kernel_state.specs.Setup.{booted_with};
+ghost use Rattle.kernel_state.specs.Setup.{booted_of_setup};
 ghost use Rattle.kernel_state.specs.Tables.{HasFreePages, tables_of};
 ghost use Rattle.rpc_cont.specs.Advancing.{phase_after};
 ghost use Rattle.kernel_exit.specs.Ending.{CanEnd, ComesOfGrant, ComesOfRest};
@@ -66,7 +66,7 @@ fn shows_result(tables: &Tables, cont: &mut Cont<Pages>)
 
 /// What a call that ran comes to, by why it stopped, or that its steps are used.
 pub fn after_grant(setup: &Setup, tables: &mut Tables, cont: &mut Cont<Pages>, why: ContStop)
-    requires ends { phase_after why ≡ Phase.Ends → CanEnd (booted_with setup.now) (tables_of tables.old) cont.old }
+    requires ends { phase_after why ≡ Phase.Ends → CanEnd (booted_of_setup setup.now) (tables_of tables.old) cont.old }
     requires pages { HasFreePages setup.now tables.old }
     ensures comes { ComesOfGrant (tables_of tables.old) cont.old why cont.new tables.new }
     ensures pages { HasFreePages setup.now tables.new }

@@ -4,7 +4,7 @@ ghost use Rattle.base.specs.NumberMap.{get};
 ghost use Rattle.kernel_model.specs.Exit.{tables_after_end, tables_after_panic, tables_unrun};
 ghost use Rattle.kernel_model.specs.Kernel.{PendingCall};
 ghost use Rattle.kernel_state.specs.Calls.{bytes_of};
-ghost use Rattle.kernel_state.specs.Setup.{booted_with};
+ghost use Rattle.kernel_state.specs.Setup.{booted_of_setup};
 ghost use Rattle.kernel_state.specs.Tables.{HasFreePages, tables_of};
 ghost use Rattle.rpc_cont.specs.Conts.{end_left};
 ghost use Rattle.kernel_exit.specs.Ending.{CanEnd, IsOf};
@@ -18,7 +18,7 @@ use rpc_cont::Cont;
 
 /// After the job of a call has ended.
 pub fn tables_after_end(setup: &Setup, tables: &mut Tables, cont: &mut Cont<Pages>)
-    requires ends { CanEnd (booted_with setup.now) (tables_of tables.old) cont.old }
+    requires ends { CanEnd (booted_of_setup setup.now) (tables_of tables.old) cont.old }
     requires pages { HasFreePages setup.now tables.old }
     ensures tables { (call : PendingCall) → IsOf cont.old call → tables_of tables.new
         ≡ tables_after_end (tables_of tables.old) call (end_left bytes_of cont.old) }
@@ -47,7 +47,7 @@ pub fn tables_after_end(setup: &Setup, tables: &mut Tables, cont: &mut Cont<Page
 
 /// After it has panicked, in any entry point: its instance is dead.
 pub fn tables_after_panic(setup: &Setup, tables: &mut Tables, cont: &mut Cont<Pages>)
-    requires ends { CanEnd (booted_with setup.now) (tables_of tables.old) cont.old }
+    requires ends { CanEnd (booted_of_setup setup.now) (tables_of tables.old) cont.old }
     requires pages { HasFreePages setup.now tables.old }
     ensures tables { (call : PendingCall) → IsOf cont.old call → tables_of tables.new
         ≡ tables_after_panic (tables_of tables.old) call }

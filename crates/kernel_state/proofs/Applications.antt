@@ -9,13 +9,13 @@ use Rattle.kernel_model.specs.Instances as instances
 use Rattle.native_tas.proofs.Mapped.{find_mapped}
 use Rattle.native_tas.specs.declared.native_app.NativeApp.{NativeApp}
 use Rattle.ta_isa.specs.declared.boot.App.{App}
-use Rattle.kernel_state.specs.Setup.{app_of, boot_of, booted_with, natives_of}
+use Rattle.kernel_state.specs.Setup.{app_of, boot_of, booted_of_setup, natives_of}
 use Rattle.kernel_state.specs.declared.setup.Setup.{Setup}
 use Rattle.kernel_state.specs.declared.shared_app.SharedApp.{SharedApp}
 
 -- that of the boot, or else the one that is built in
 app_in : (setup : Setup) (uuid : List _) →
-    instances.app_of (booted_with setup) uuid
+    instances.app_of (booted_of_setup setup) uuid
     ≡ option_or (option_map (λ app. OfImage (app_of app)) (find (λ app. bytes_eq app.uuid uuid) setup.apps))
     (option_map (λ app. BuiltIn app.uuid app.relation) (find (λ app. bytes_eq app.uuid uuid) setup.natives))
 app_in setup uuid =
@@ -35,7 +35,7 @@ app_in setup uuid =
 
 pub app_of_boot : (setup : Setup) (uuid : List _) (app shared : SharedApp) →
     Some app ≡ find (λ app. bytes_eq app.uuid uuid) setup.apps → app_of shared ≡ app_of app →
-    instances.app_of (booted_with setup) uuid ≡ Some (OfImage (app_of shared))
+    instances.app_of (booted_of_setup setup) uuid ≡ Some (OfImage (app_of shared))
 app_of_boot setup uuid app shared found same =
     app_in setup uuid
     ∙ ap (λ found. option_or (option_map (λ app. OfImage (app_of app)) found) (option_map (λ (app : NativeApp). BuiltIn app.uuid app.relation) (find (λ app. bytes_eq app.uuid uuid) setup.natives))) (sym found)
@@ -43,7 +43,7 @@ app_of_boot setup uuid app shared found same =
 
 pub app_built_in : (setup : Setup) (uuid : List _) (app : Option NativeApp) →
     None ≡ find (λ app. bytes_eq app.uuid uuid) setup.apps → app ≡ find (λ app. bytes_eq app.uuid uuid) setup.natives →
-    instances.app_of (booted_with setup) uuid ≡ option_map (λ app. BuiltIn app.uuid app.relation) app
+    instances.app_of (booted_of_setup setup) uuid ≡ option_map (λ app. BuiltIn app.uuid app.relation) app
 app_built_in setup uuid app none found =
     app_in setup uuid
     ∙ ap (λ (none : Option SharedApp). option_or (option_map (λ app. OfImage (app_of app)) none) (option_map (λ (app : NativeApp). BuiltIn app.uuid app.relation) (find (λ app. bytes_eq app.uuid uuid) setup.natives))) (sym none)

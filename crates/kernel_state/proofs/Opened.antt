@@ -13,7 +13,7 @@ use Rattle.kernel_model.specs.Kernel as model
 use Rattle.rpc_cont.specs.declared.cont.Cont.{Cont}
 use Rattle.thread_slots.specs.declared.slot.Slot.{Slot}
 use Rattle.thread_slots.specs.declared.slot.Slot.TheVariants.{Free}
-use Rattle.kernel_state.specs.Setup.{boot_of, booted_with, natives_of}
+use Rattle.kernel_state.specs.Setup.{boot_of, booted_of_setup, natives_of}
 use Rattle.kernel_state.specs.Tables.{tables_of}
 use Rattle.frame_pool.specs.Pool.{Frames}
 use Rattle.kernel_model.specs.Instances.{free_pages}
@@ -60,7 +60,7 @@ pub first_stands : (parts : Parts) (beside : Cancellation) →
     parts.processors.items ≡ replicate parts.setup.cpus Outside →
     tables_of parts.tables ≡ model.first_tables →
     parts.tables.pool ≡ record { frames = parts.setup.frames; free = parts.setup.frames } →
-    StandsFor parts (first_kernel (booted_with parts.setup))
+    StandsFor parts (first_kernel (booted_of_setup parts.setup))
 first_stands parts beside slots besides processors tables pool =
     let all_cpus : length parts.processors.items ≡ parts.setup.cpus = rw (processors, length-replicate) refl in
     let all_threads : length parts.slots ≡ parts.setup.threads = rw (slots, length-replicate) refl in
@@ -73,7 +73,7 @@ first_stands parts beside slots besides processors tables pool =
       pages = record {
         frames = ap (λ (pool : Frames). pool.frames) pool;
         free = ap (λ (pool : Frames). pool.free) pool ∙ all_free parts.setup.frames
-            ∙ sym (ap (λ (tables : model.Tables). free_pages (booted_with parts.setup) tables.instances) tables);
+            ∙ sym (ap (λ (tables : model.Tables). free_pages (booted_of_setup parts.setup) tables.instances) tables);
       };
       room = omega (arith, none_inside parts.setup.cpus);
     }
@@ -81,11 +81,11 @@ first_stands parts beside slots besides processors tables pool =
 -- where nothing has happened, they do
 pub opened : (parts : Parts) (boot : Boot) (natives : List Native) →
     boot_of parts.setup ≡ boot → natives_of parts.setup ≡ natives → IsBoot boot → AreNatives boot natives →
-    parts.journal.events ≡ [] → parts.journal.keeps ≡ parts.setup.terms.keeps → parts.setup.terms.most ≤ 2 ^ 63 → StandsFor parts (first_kernel (booted_with parts.setup)) → ∥ Replays parts ∥₁
+    parts.journal.events ≡ [] → parts.journal.keeps ≡ parts.setup.terms.keeps → parts.setup.terms.most ≤ 2 ^ 63 → StandsFor parts (first_kernel (booted_of_setup parts.setup)) → ∥ Replays parts ∥₁
 opened parts boot natives same_boot same_natives is_boot are_natives none keeps bounded stands =
-    let comes : (events : List Event) → events ≡ [] → kernel_after (booted_with parts.setup) events ≡ Some (first_kernel (booted_with parts.setup)) = λ events is. ap (kernel_after (booted_with parts.setup)) is in
+    let comes : (events : List Event) → events ≡ [] → kernel_after (booted_of_setup parts.setup) events ≡ Some (first_kernel (booted_of_setup parts.setup)) = λ events is. ap (kernel_after (booted_of_setup parts.setup)) is in
     ∣ record {
-      kernel = first_kernel (booted_with parts.setup);
+      kernel = first_kernel (booted_of_setup parts.setup);
       is_boot = subst IsBoot (sym same_boot) is_boot;
       are_natives = subst (λ boot. AreNatives boot (natives_of parts.setup)) (sym same_boot) (subst (AreNatives boot) (sym same_natives) are_natives);
       comes_to = comes parts.journal.events none;

@@ -31,7 +31,7 @@ use Rattle.kernel_state.specs.Processors.{processor_of}
 use Rattle.kernel_state.specs.Reads.{ReadsAgree}
 use Rattle.kernel_state.specs.Replay.{Replays}
 use Rattle.kernel_state.specs.StandsFor.{AreSlots, IsSlot, StandsFor}
-use Rattle.kernel_state.specs.Setup.{boot_of, booted_with, natives_of}
+use Rattle.kernel_state.specs.Setup.{boot_of, booted_of_setup, natives_of}
 use Rattle.kernel_state.specs.declared.cancellation.Cancellation.{Cancellation}
 use Rattle.kernel_state.specs.declared.parts.Parts.{Parts}
 use Rattle.kernel_state.specs.declared.processor.Processor.{Processor}
@@ -50,7 +50,7 @@ natives_prop boot natives = Prim.hlevel props
 follows_prop : (boot : Booted) (events : List Event) → IsProp (IsSome (kernel_after boot events))
 follows_prop boot events = Prim.hlevel props
 
-pub is_legal : (parts : Parts) → ∥ Replays parts ∥₁ → IsLegal (booted_with parts.setup) parts.journal.events
+pub is_legal : (parts : Parts) → ∥ Replays parts ∥₁ → IsLegal (booted_of_setup parts.setup) parts.journal.events
 is_legal parts fact = record {
   boots = record {
     boot = boot_of parts.setup;
@@ -59,7 +59,7 @@ is_legal parts fact = record {
     are_natives = ∥∥₁_elim fact (natives_prop (boot_of parts.setup) (natives_of parts.setup)) (λ (so : Replays parts). so.are_natives);
     same = refl;
   };
-  follows = ∥∥₁_elim fact (follows_prop (booted_with parts.setup) parts.journal.events) (λ (so : Replays parts). rw so.comes_to refl);
+  follows = ∥∥₁_elim fact (follows_prop (booted_of_setup parts.setup) parts.journal.events) (λ (so : Replays parts). rw so.comes_to refl);
 }
 
 few_within : (copied most : ℕ) → copied ≤ most → most ≤ 2 ^ 63 → copied ≤ 2 ^ 63
@@ -85,14 +85,14 @@ pub reads_agree : (parts : Parts) → ∥ Replays parts ∥₁ → AllByRecursio
 reads_agree parts fact = ∥∥₁_elim fact (AllByRecursion-prop ReadsAgree agree_prop parts.journal.events) (λ (so : Replays parts). so.agree)
 
 pub reads_ram : (parts : Parts) → ∥ Replays parts ∥₁ → AllByRecursion ReadsRam parts.journal.events
-reads_ram parts fact = histories_read_ram (booted_with parts.setup) parts.journal.events (is_legal parts fact)
+reads_ram parts fact = histories_read_ram (booted_of_setup parts.setup) parts.journal.events (is_legal parts fact)
 
 -- ---- what is asked of the kernel
 
 -- what is asked of the kernel, where each that the parts stand for answers so
 answer_told : {A : Type 0} → IsSet A → (parts : Parts) (ask : Kernel → A) (answer : A) →
     ((kernel : Kernel) → StandsFor parts kernel → ask kernel ≡ answer) → ∥ Replays parts ∥₁ →
-    option_map ask (kernel_after (booted_with parts.setup) parts.journal.events) ≡ Some answer
+    option_map ask (kernel_after (booted_of_setup parts.setup) parts.journal.events) ≡ Some answer
 answer_told is_set parts ask answer tells fact = ∥∥₁_elim fact (Prim.hlevel (props, is_set)) (λ (so : Replays parts).
     ap (option_map ask) so.comes_to ∙ ap Some (tells so.kernel so.stands))
 
@@ -125,16 +125,16 @@ as_many_free (s ∷ ss) (b ∷ bs) (h ∷ hs) are =
     ∙ sym (sum_by-cons (λ slot. cond (is_free slot) 1 0) s ss)
 
 pub free_slots_told : (parts : Parts) (free : ℕ) → free ≡ count_by is_free parts.slots → ∥ Replays parts ∥₁ →
-    option_map free_slots_in (kernel_after (booted_with parts.setup) parts.journal.events) ≡ Some free
+    option_map free_slots_in (kernel_after (booted_of_setup parts.setup) parts.journal.events) ≡ Some free
 free_slots_told parts free is = answer_told (Prim.hlevel props) parts free_slots_in free (λ kernel stands.
     as_many_free parts.slots parts.cancellations.items kernel.slots stands.slots ∙ sym is)
 
 -- ---- pages
 
 pub free_pages_told : (parts : Parts) (free : ℕ) → free ≡ parts.tables.pool.free → ∥ Replays parts ∥₁ →
-    option_map (free_pages_in (booted_with parts.setup)) (kernel_after (booted_with parts.setup) parts.journal.events) ≡ Some free
-free_pages_told parts free is = answer_told (Prim.hlevel props) parts (free_pages_in (booted_with parts.setup)) free (λ kernel stands.
-    sym (ap (λ (tables : model.Tables). free_pages (booted_with parts.setup) tables.instances) stands.tables) ∙ sym stands.pages.free ∙ sym is)
+    option_map (free_pages_in (booted_of_setup parts.setup)) (kernel_after (booted_of_setup parts.setup) parts.journal.events) ≡ Some free
+free_pages_told parts free is = answer_told (Prim.hlevel props) parts (free_pages_in (booted_of_setup parts.setup)) free (λ kernel stands.
+    sym (ap (λ (tables : model.Tables). free_pages (booted_of_setup parts.setup) tables.instances) stands.tables) ∙ sym stands.pages.free ∙ sym is)
 
 -- ---- processors
 
@@ -143,7 +143,7 @@ found_told : (parts : Parts) (cpu : ℕ) (found : Option Processor) (answer : Bo
     slice_get parts.processors.items cpu ≡ found →
     option_map_or (λ (processor : model.Processor). not (is_outside processor)) (option_map processor_of found) false ≡ answer →
     ∥ Replays parts ∥₁ →
-    option_map (is_inside cpu) (kernel_after (booted_with parts.setup) parts.journal.events) ≡ Some answer
+    option_map (is_inside cpu) (kernel_after (booted_of_setup parts.setup) parts.journal.events) ≡ Some answer
 found_told parts cpu found answer is so = answer_told (Prim.hlevel props) parts (is_inside cpu) answer (λ kernel stands.
     ap (λ (processors : List model.Processor). option_map_or (λ (processor : model.Processor). not (is_outside processor)) (slice_get processors cpu) false) (sym stands.processors)
     ∙ ap (λ (one : Option model.Processor). option_map_or (λ (processor : model.Processor). not (is_outside processor)) one false)
@@ -153,10 +153,10 @@ found_told parts cpu found answer is so = answer_told (Prim.hlevel props) parts 
 pub inside_told : (parts : Parts) (cpu : ℕ) (processor : Processor) (answer : Bool) →
     cpu < length parts.processors.items → processor ≡ get_or parts.processors.items cpu processor →
     answer ≡ not (is_outside (processor_of processor)) → ∥ Replays parts ∥₁ →
-    option_map (is_inside cpu) (kernel_after (booted_with parts.setup) parts.journal.events) ≡ Some answer
+    option_map (is_inside cpu) (kernel_after (booted_of_setup parts.setup) parts.journal.events) ≡ Some answer
 inside_told parts cpu processor answer below is so =
     found_told parts cpu (Some processor) answer (slice_get_read parts.processors.items (length parts.processors.items) cpu processor refl below is) (sym so)
 
 pub absent_told : (parts : Parts) (cpu : ℕ) → length parts.processors.items ≤ cpu → ∥ Replays parts ∥₁ →
-    option_map (is_inside cpu) (kernel_after (booted_with parts.setup) parts.journal.events) ≡ Some false
+    option_map (is_inside cpu) (kernel_after (booted_of_setup parts.setup) parts.journal.events) ≡ Some false
 absent_told parts cpu past = found_told parts cpu None false (slice_get_past parts.processors.items cpu past) refl

@@ -6,12 +6,12 @@ use Rattle.kernel_model.specs.Application.{Booted}
 use Rattle.kernel_model.specs.History.{is_outside, kernel_after}
 use Rattle.kernel_model.specs.Instances.{free_pages}
 use Rattle.kernel_model.specs.Kernel.{Kernel, is_free}
-use Rattle.kernel_state.specs.Setup.{Basis, basis_with, booted_with}
+use Rattle.kernel_state.specs.Setup.{Basis, basis_with, booted_of_setup}
 use Rattle.kernel_state.specs.declared.kernel_core.Core.{Core}
 use Rattle.kernel_state.specs.declared.terms.Terms.{Terms}
 
 abbrev pub booted_of : Core → Booted
-booted_of core = booted_with core.parts.setup
+booted_of core = booted_of_setup core.parts.setup
 
 -- what becomes of its events, and how much its entries may read
 abbrev pub terms_of : Core → Terms

@@ -32,8 +32,8 @@ abbrev pub natives_of : Setup → List Native
 natives_of setup = map (λ app. (app.uuid, app.relation)) setup.natives
 
 -- the boot, and the applications that are built in
-abbrev pub booted_with : Setup → Booted
-booted_with setup = booted (boot_of setup) (natives_of setup)
+abbrev pub booted_of_setup : Setup → Booted
+booted_of_setup setup = booted (boot_of setup) (natives_of setup)
 
 -- the boot, the applications that are built in, and the terms
 pub record Basis : Type 0 where
@@ -41,4 +41,4 @@ pub record Basis : Type 0 where
   pub terms : Terms
 
 abbrev pub basis_with : Setup → Basis
-basis_with setup = record { boot = booted_with setup; terms = setup.terms }
+basis_with setup = record { boot = booted_of_setup setup; terms = setup.terms }

@@ -4,7 +4,7 @@ use Rattle.std.specs.Option.{option_map_or}
 use Rattle.kernel_model.specs.Instances.{free_pages}
 use Rattle.kernel_model.specs.Kernel as model
 use Rattle.ta_instances.specs.declared.instance.Instance.{Instance}
-use Rattle.kernel_state.specs.Setup.{booted_with}
+use Rattle.kernel_state.specs.Setup.{booted_of_setup}
 use Rattle.kernel_state.specs.declared.setup.Setup.{Setup}
 use Rattle.kernel_state.specs.declared.tables.Tables.{Tables}
 
@@ -32,4 +32,4 @@ tables_of tables = record {
 -- the pool has just the pages that no instance has, of all frames of the boot
 pub record HasFreePages (setup : Setup) (tables : Tables) : Type 0 where
   pub frames : tables.pool.frames ≡ setup.frames
-  pub free : tables.pool.free ≡ free_pages (booted_with setup) (tables_of tables).instances
+  pub free : tables.pool.free ≡ free_pages (booted_of_setup setup) (tables_of tables).instances

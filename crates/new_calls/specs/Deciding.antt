@@ -13,7 +13,7 @@ use Rattle.kernel_model.specs.Kernel as kernel
 use Rattle.kernel_model.specs.Located.{with_argument_pinned}
 use Rattle.kernel_model.specs.NewCall as model
 use Rattle.kernel_model.specs.NewCall.{cancels, closes, invokes, keeps_buffers, opens_or_waits, settles, settles_invoke, settles_open}
-use Rattle.kernel_state.specs.Setup.{application_of, booted_with}
+use Rattle.kernel_state.specs.Setup.{application_of, booted_of_setup}
 use Rattle.kernel_state.specs.Tables.{tables_of}
 use Rattle.msg_args.specs.declared.param.MsgParam.{MsgParam}
 use Rattle.param_copy.specs.Copying.{Copies}
@@ -49,7 +49,7 @@ abbrev pub call_with : Booted → kernel.Tables → Entered → model.NewCall
 call_with boot tables entered = call_found boot (with_argument_pinned entered.cookie tables entered.slot) entered
 
 abbrev pub call_of : NewCall → model.NewCall
-call_of call = call_with (booted_with call.setup.now) (tables_of call.tables.now) call.entered
+call_of call = call_with (booted_of_setup call.setup.now) (tables_of call.tables.now) call.entered
 
 -- ---- what becomes of it
 

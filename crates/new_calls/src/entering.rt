@@ -6,7 +6,7 @@ ghost use Rattle.kernel_model.specs.Argument.{argument_at, client_in};
 ghost use Rattle.kernel_model.specs.Decision.{decided_by, taken_by};
 ghost use Rattle.kernel_model.specs.Kernel.{Tables};
 ghost use Rattle.kernel_model.specs.NewCall.{new_call_with};
-ghost use Rattle.kernel_state.specs.Setup.{booted_with};
+ghost use Rattle.kernel_state.specs.Setup.{booted_of_setup};
 ghost use Rattle.kernel_state.specs.Tables.{HasFreePages, tables_of};
 ghost use Rattle.msg_args.specs.Reading.{head_at};
 ghost use Rattle.ns_ram.specs.Reader.{over_lane};
@@ -60,14 +60,14 @@ pub fn new_call(
 ) -> Result<Decided, NoMemory>
     requires free { IfSome found.now.free (λ slot. slot < 16) }
     requires pages { HasFreePages found.now.setup.now found.now.tables.now }
-    requires apps { HaveApps (booted_with found.now.setup.now) (tables_of found.now.tables.now) }
+    requires apps { HaveApps (booted_of_setup found.now.setup.now) (tables_of found.now.tables.now) }
     ensures decides { IfOk result (λ decided.
         over_lane (decided_by
-        (new_call_with (booted_with found.now.setup.now) (tables_of found.now.tables.now) regs.now.a found.now.free))
+        (new_call_with (booted_of_setup found.now.setup.now) (tables_of found.now.tables.now) regs.now.a found.now.free))
         lane.now reads.old
-        ≡ Some (decision_of (booted_with found.now.setup.now) (tables_of found.now.tables.now) decided, reads.new)) }
+        ≡ Some (decision_of (booted_of_setup found.now.setup.now) (tables_of found.now.tables.now) decided, reads.new)) }
     ensures slot { IfOk result (IsInSlot found.now.free) }
-    ensures can_apply { IfOk result (CanTake (booted_with found.now.setup.now) (tables_of found.now.tables.now)) }
+    ensures can_apply { IfOk result (CanTake (booted_of_setup found.now.setup.now) (tables_of found.now.tables.now)) }
 {
     let Some(slot) = found.free else {
         return Ok(Decided::Answers(code(ETHREAD_LIMIT)));
@@ -137,7 +137,7 @@ impl NewCall<'_> {
         reads: &mut Reads,
     ) -> Result<Plan, NoMemory>
         requires pages { HasFreePages self.now.setup.now self.now.tables.now }
-        requires apps { HaveApps (booted_with self.now.setup.now) (tables_of self.now.tables.now) }
+        requires apps { HaveApps (booted_of_setup self.now.setup.now) (tables_of self.now.tables.now) }
         ensures decides { IfOk result (λ plan.
             over_lane (taken_by (tests_of command (call_of self.now))) lane.now reads.old
             ≡ Some (taken_of (call_of self.now) plan, reads.new)) }
@@ -159,7 +159,7 @@ impl NewCall<'_> {
         reads: &mut Reads,
     ) -> Result<Plan, Halt>
         requires pages { HasFreePages self.now.setup.now self.now.tables.now }
-        requires apps { HaveApps (booted_with self.now.setup.now) (tables_of self.now.tables.now) }
+        requires apps { HaveApps (booted_of_setup self.now.setup.now) (tables_of self.now.tables.now) }
         ensures decides { Decides self.now (tests_of command) lane.now reads.old reads.new result }
         ensures can_apply { IfOk result (CanApply (call_of self.now)) }
     {

@@ -1,7 +1,7 @@
 ghost use Rattle.std.specs.Prelude.{◌≤◌, IfOk, List, length};
 ghost use Rattle.kernel_model.specs.Argument.{invocation};
 ghost use Rattle.kernel_model.specs.NewCall.{invoke_command};
-ghost use Rattle.kernel_state.specs.Setup.{booted_with};
+ghost use Rattle.kernel_state.specs.Setup.{booted_of_setup};
 ghost use Rattle.kernel_state.specs.Tables.{tables_of};
 ghost use Rattle.new_calls.specs.Applying.{CanApply, HaveApps};
 ghost use Rattle.new_calls.specs.Deciding.{Decides, HaveSaid, call_of};
@@ -24,7 +24,7 @@ impl NewCall<'_> {
         lane: &Lane,
         reads: &mut Reads,
     ) -> Result<Plan, Halt>
-        requires { HaveApps (booted_with self.now.setup.now) (tables_of self.now.tables.now) }
+        requires { HaveApps (booted_of_setup self.now.setup.now) (tables_of self.now.tables.now) }
         ensures decides { Decides self.now invoke_command lane.now reads.old reads.new result }
         ensures can_apply { IfOk result (CanApply (call_of self.now)) }
     {
@@ -43,7 +43,7 @@ impl NewCall<'_> {
         invoked: &[MsgParam],
         reads: &mut Reads,
     ) -> Result<Plan, Halt>
-        requires apps { HaveApps (booted_with self.now.setup.now) (tables_of self.now.tables.now) }
+        requires apps { HaveApps (booted_of_setup self.now.setup.now) (tables_of self.now.tables.now) }
         requires few { length invoked.now ≤ 4 }
         ensures decides { (before : List AnyRead)
             → HaveSaid (call_of self.now) invocation invoked.now lane.now before reads.old

@@ -1,7 +1,7 @@
 ghost use Rattle.std.specs.Prelude.{◌≡◌, IfOk, IsSome, None, Some, MatchOption};
 ghost use Rattle.kernel_model.specs.Instances.{app_of};
 ghost use Rattle.kernel_model.specs.NewCall.{named_session};
-ghost use Rattle.kernel_state.specs.Setup.{application_of, booted_with};
+ghost use Rattle.kernel_state.specs.Setup.{application_of, booted_of_setup};
 ghost use Rattle.kernel_state.specs.Tables.{instance_of};
 ghost use Rattle.new_calls.specs.Deciding.{call_of};
 
@@ -29,9 +29,9 @@ impl NewCall<'_> {
     }
     /// The application of an instance.
     pub(crate) fn app_on(&self, instance: &Instance) -> Result<Application, NoMemory>
-        requires { IsSome (app_of (booted_with self.now.setup.now) instance.now.uuid) }
+        requires { IsSome (app_of (booted_of_setup self.now.setup.now) instance.now.uuid) }
         ensures { IfOk result (λ app.
-            app_of (booted_with self.now.setup.now) instance.now.uuid ≡ Some (application_of app)) }
+            app_of (booted_of_setup self.now.setup.now) instance.now.uuid ≡ Some (application_of app)) }
     {
         match self.setup.application(&instance.uuid)? {
             Some(app) => Ok(app),

@@ -12,7 +12,7 @@ use Rattle.kernel_model.specs.Kernel.{CallPhase, Runs, Asks, Waits, Ends, Instan
 use Rattle.kernel_model.specs.Kernel as model
 use Rattle.kernel_model.specs.Resume.{Resumed, is_without_buffer, onward_in, onward_of, resumed_call, resumes_waiting, sees}
 use Rattle.kernel_state.specs.Calls.{IsCall, IsInPhase, IsWaiting, bytes_of}
-use Rattle.kernel_state.specs.Setup.{application_of, boot_of, booted_with, natives_of}
+use Rattle.kernel_state.specs.Setup.{application_of, boot_of, booted_of_setup, natives_of}
 use Rattle.kernel_state.specs.declared.setup.Application.{Application as AnyApplication}
 use Rattle.kernel_state.specs.declared.setup.Setup.{Setup}
 use Rattle.rpc_cont.specs.Answering.{CanBeAnswered}
@@ -120,19 +120,19 @@ in_line boot tables resumed old one cont given fact saw gives first second waits
     line_by boot tables resumed old one cont given can saw gives first second waits)
 
 app_there : (setup : Setup) (cont : Cont (List ℕ)) (app : Option (AnyApplication)) → IsBoot (boot_of setup) →
-    app_of (booted_with setup) (uuid_of cont.app) ≡ option_map application_of app → MayBeItsApp (booted_with setup) cont app
+    app_of (booted_of_setup setup) (uuid_of cont.app) ≡ option_map application_of app → MayBeItsApp (booted_of_setup setup) cont app
 app_there setup cont None boot found = found
 app_there setup cont (Some app) boot found =
     record { found = found; valid = valid_app (boot_of setup) (natives_of setup) (uuid_of cont.app) (application_of app) boot found }
 
 pub may_be_app : (setup : Setup) (tables : model.Tables) (resumed : Resumes) (old one cont : Cont (List ℕ)) → IsBoot (boot_of setup) →
-    IsAppFor (booted_with setup) old resumed.app → IsInLine (booted_with setup) tables resumed.slot cont →
+    IsAppFor (booted_of_setup setup) old resumed.app → IsInLine (booted_of_setup setup) tables resumed.slot cont →
     one ≡ record old { cancelled = one.cancelled; machine = one.machine } → cont ≡ record one { buffer = cont.buffer } →
-    cont.phase ≡ phase.Waits → MayBeItsApp (booted_with setup) cont resumed.app
+    cont.phase ≡ phase.Waits → MayBeItsApp (booted_of_setup setup) cont resumed.app
 may_be_app setup tables resumed old one cont boot its line first second waits =
     let stays = stays_both old one cont first second in
     app_there setup cont resumed.app boot
-    (ap (λ (app : Option (ContApp)). app_of (booted_with setup) (uuid_of app)) stays.app
+    (ap (λ (app : Option (ContApp)). app_of (booted_of_setup setup) (uuid_of app)) stays.app
     ∙ its (sym stays.phase ∙ waits) (some_app old cont stays.app line.app))
 
 pub waiting_onward : (left tables : model.Tables) (boot : Booted) (resumed : Resumes) (old one cont after : Cont (List ℕ)) (given : Given) (without : Bool) →

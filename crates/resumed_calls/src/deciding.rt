@@ -1,7 +1,7 @@
 //! What a resume decides.
 ghost use Rattle.std.specs.Prelude.{◌≡◌, List, IfOk, OnErr};
 ghost use Rattle.kernel_model.specs.Kernel.{ThreadSlot};
-ghost use Rattle.kernel_state.specs.Setup.{booted_with};
+ghost use Rattle.kernel_state.specs.Setup.{booted_of_setup};
 ghost use Rattle.kernel_state.specs.StandsFor.{AreSlots};
 ghost use Rattle.kernel_state.specs.declared.cancellation.Cancellation.{Cancellation as AnyCancellation};
 ghost use Rattle.rpc_cont.specs.Conts.{uuid_of};
@@ -45,7 +45,7 @@ pub fn decide(
     ensures ok { (beside : List AnyCancellation) (held : List ThreadSlot) → AreSlots slots.now beside held → IfOk result (λ decided.
         IsDecided held regs.now.a lane.now reads.old decided reads.new) }
     ensures slot { IfOk result (IsInSlot regs.now.a) }
-    ensures app { IfOk result (IsAppIn (booted_with setup.now) slots.now regs.now.a) }
+    ensures app { IfOk result (IsAppIn (booted_of_setup setup.now) slots.now regs.now.a) }
     ensures err { OnErr result (reads.new ≡ reads.old) }
 {
     let Some(cont) = call_resumed_by(slots, regs) else {
@@ -60,7 +60,7 @@ pub fn decide(
 /// The application of a call that waits for its instance, if the core has that.
 #[tactic(auto, using(crate::proofs::Decides::app_waited, crate::proofs::Decides::app_unasked, crate::proofs::Decides::app_missing))]
 fn app_of_waiting(setup: &Setup, cont: &Cont<Pages>) -> Result<Option<Application>, NoMemory>
-    ensures { IfOk result (IsAppFor (booted_with setup.now) cont.now) }
+    ensures { IfOk result (IsAppFor (booted_of_setup setup.now) cont.now) }
 {
     match (cont.phase, &cont.app) {
         (Phase::Waits, Some(app)) => setup.application(&uuid_of(app)),

@@ -3,7 +3,7 @@ ghost use Rattle.std.specs.Prelude.{◌≡◌};
 ghost use Rattle.kernel_model.specs.Kernel.{PendingCall};
 ghost use Rattle.kernel_model.specs.Resume.{is_without_buffer, onward_of, resumed_call};
 ghost use Rattle.kernel_state.specs.Calls.{IsCall};
-ghost use Rattle.kernel_state.specs.Setup.{boot_of, booted_with};
+ghost use Rattle.kernel_state.specs.Setup.{boot_of, booted_of_setup};
 ghost use Rattle.kernel_state.specs.Tables.{HasFreePages, tables_of};
 ghost use Rattle.ta_isa.specs.Boots.{IsBoot};
 ghost use Rattle.resumed_calls.specs.Giving.{given_as};
@@ -36,11 +36,11 @@ pub struct Resumed {
 pub fn resume_call(setup: &Setup, tables: &mut Tables, cont: &mut Cont<Pages>, resumed: Resumed)
     requires boot { IsBoot (boot_of setup.now) }
     requires pages { HasFreePages setup.now tables.old }
-    requires call { ∥ CanResume (booted_with setup.now) (tables_of tables.old) resumed cont.old ∥₁ }
-    requires app { IsAppFor (booted_with setup.now) cont.old resumed.app }
+    requires call { ∥ CanResume (booted_of_setup setup.now) (tables_of tables.old) resumed cont.old ∥₁ }
+    requires app { IsAppFor (booted_of_setup setup.now) cont.old resumed.app }
     ensures call { (call : PendingCall) → IsCall cont.old call → call.marked ≡ resumed.marked
         → HasCome (tables_of tables.new) cont.new
-        (onward_of (resumed_call (booted_with setup.now) (tables_of tables.old) resumed.slot call (given_as resumed.given))) }
+        (onward_of (resumed_call (booted_of_setup setup.now) (tables_of tables.old) resumed.slot call (given_as resumed.given))) }
     ensures pages { HasFreePages setup.now tables.new }
 {
     let Resumed {

@@ -8,7 +8,7 @@ ghost use Rattle.kernel_model.specs.Given.{Given};
 ghost use Rattle.kernel_model.specs.Kernel.{Instance as AnyInstance, PendingCall};
 ghost use Rattle.kernel_model.specs.Resume.{begins, begins_in, begins_open, ends_with, is_close, is_without_buffer, resumes_waiting, sleeps_on, tested_again, who_resumes};
 ghost use Rattle.kernel_state.specs.Calls.{IsCall};
-ghost use Rattle.kernel_state.specs.Setup.{application_of, booted_with};
+ghost use Rattle.kernel_state.specs.Setup.{application_of, booted_of_setup};
 ghost use Rattle.kernel_state.specs.Tables.{HasFreePages, tables_of};
 ghost use Rattle.session_table.specs.Waiters.{waits};
 ghost use Rattle.ta_params.specs.declared.copied_params.CopiedParams.{CopiedParams as AnyParams};
@@ -41,12 +41,12 @@ pub(crate) struct Turn {
 /// Tests a call that waits again. Its session may be gone.
 #[tactic(auto, using(crate::proofs::Line::in_session, crate::proofs::Line::pages_beside))]
 pub(crate) fn resume_waiting(setup: &Setup, tables: &mut Tables, cont: &mut Cont<Pages>, turn: Turn)
-    requires line { IsInLine (booted_with setup.now) (tables_of tables.old) turn.slot cont.old }
-    requires app { MayBeItsApp (booted_with setup.now) cont.old turn.app }
+    requires line { IsInLine (booted_of_setup setup.now) (tables_of tables.old) turn.slot cont.old }
+    requires app { MayBeItsApp (booted_of_setup setup.now) cont.old turn.app }
     requires pages { HasFreePages setup.now tables.old }
     ensures call { (given : Given) (call : PendingCall) (params : AnyParams) → is_without_buffer given ≡ turn.without_buffer
         → IsWaitingCall cont.old call params → HasCome (tables_of tables.new) cont.new
-        (resumes_waiting (resumed_in (booted_with setup.now) (tables_of tables.old) turn.slot given call) params) }
+        (resumes_waiting (resumed_in (booted_of_setup setup.now) (tables_of tables.old) turn.slot given call) params) }
     ensures pages { HasFreePages setup.now tables.new }
 {
     match tables.sessions.find(cont.session).copied() {
@@ -64,13 +64,13 @@ fn test_again(
     turn: Turn,
     session: Session,
 )
-    requires line { IsInLine (booted_with setup.now) (tables_of tables.old) turn.slot cont.old }
-    requires app { MayBeItsApp (booted_with setup.now) cont.old turn.app }
+    requires line { IsInLine (booted_of_setup setup.now) (tables_of tables.old) turn.slot cont.old }
+    requires app { MayBeItsApp (booted_of_setup setup.now) cont.old turn.app }
     requires session { get (tables_of tables.old).sessions cont.old.session ≡ Some session }
     requires pages { HasFreePages setup.now tables.old }
     ensures call { (given : Given) (call : PendingCall) (params : AnyParams) → is_without_buffer given ≡ turn.without_buffer
         → IsWaitingCall cont.old call params → HasCome (tables_of tables.new) cont.new
-        (tested_again (resumed_in (booted_with setup.now) (tables_of tables.old) turn.slot given call) params session
+        (tested_again (resumed_in (booted_of_setup setup.now) (tables_of tables.old) turn.slot given call) params session
         (get (tables_of tables.old).instances cont.old.instance)) }
     ensures pages { HasFreePages setup.now tables.new }
 {
@@ -128,14 +128,14 @@ fn sleep_on(tables: &mut Tables, cont: &mut Cont<Pages>, slot: u8, without_buffe
 /// Begins, by its kind. A call of a session whose instance is gone has lost its session with it.
 #[tactic(auto, using(crate::proofs::Line::pages_beside))]
 fn begin_in(setup: &Setup, tables: &mut Tables, cont: &mut Cont<Pages>, turn: SessionTurn)
-    requires line { IsInLine (booted_with setup.now) (tables_of tables.old) turn.slot cont.old }
-    requires app { MayBeItsApp (booted_with setup.now) cont.old turn.app }
+    requires line { IsInLine (booted_of_setup setup.now) (tables_of tables.old) turn.slot cont.old }
+    requires app { MayBeItsApp (booted_of_setup setup.now) cont.old turn.app }
     requires session { get (tables_of tables.old).sessions cont.old.session ≡ Some turn.session }
     requires ready { (instance : AnyInstance) → get (tables_of tables.old).instances cont.old.instance ≡ Some instance → CanBeginOn cont.old instance }
     requires pages { HasFreePages setup.now tables.old }
     ensures call { (given : Given) (call : PendingCall) (params : AnyParams) → IsWaitingCall cont.old call params
         → HasCome (tables_of tables.new) cont.new
-        (begins_in (resumed_in (booted_with setup.now) (tables_of tables.old) turn.slot given call) params turn.session cont.old.kind
+        (begins_in (resumed_in (booted_of_setup setup.now) (tables_of tables.old) turn.slot given call) params turn.session cont.old.kind
         (get (tables_of tables.old).instances cont.old.instance)) }
     ensures pages { HasFreePages setup.now tables.new }
 {
@@ -187,14 +187,14 @@ fn begin_in(setup: &Setup, tables: &mut Tables, cont: &mut Cont<Pages>, turn: Se
 /// An open begins on its instance or, where that is gone, on a new one of the same number, under the boot's key.
 #[tactic(auto, using(crate::proofs::Begins::ready_for, crate::proofs::Begins::absent_in, crate::proofs::Begins::room_in, crate::proofs::Line::pages_beside))]
 fn begin_open(setup: &Setup, tables: &mut Tables, cont: &mut Cont<Pages>, opener: OpenCall)
-    requires line { IsInLine (booted_with setup.now) (tables_of tables.old) opener.slot cont.old }
-    requires app { IsItsApp (booted_with setup.now) cont.old (application_of opener.app) }
+    requires line { IsInLine (booted_of_setup setup.now) (tables_of tables.old) opener.slot cont.old }
+    requires app { IsItsApp (booted_of_setup setup.now) cont.old (application_of opener.app) }
     requires opens { cont.old.kind ≡ CallKind.Open }
     requires ready { (instance : AnyInstance) → get (tables_of tables.old).instances cont.old.instance ≡ Some instance → CanBeginOn cont.old instance }
     requires pages { HasFreePages setup.now tables.old }
     ensures call { (given : Given) (call : PendingCall) (params : AnyParams) → IsWaitingCall cont.old call params
         → HasCome (tables_of tables.new) cont.new
-        (begins_open (resumed_in (booted_with setup.now) (tables_of tables.old) opener.slot given call) (brought opener cont.old)
+        (begins_open (resumed_in (booted_of_setup setup.now) (tables_of tables.old) opener.slot given call) (brought opener cont.old)
         (get (tables_of tables.old).instances cont.old.instance)) }
     ensures pages { HasFreePages setup.now tables.new }
 {
@@ -214,8 +214,8 @@ fn begin_open(setup: &Setup, tables: &mut Tables, cont: &mut Cont<Pages>, opener
 
 /// Begins in its session, under the boot's key, and waits no more.
 fn begin(setup: &Setup, tables: &mut Tables, cont: &mut Cont<Pages>, call: SessionCall)
-    requires line { IsInLine (booted_with setup.now) (tables_of tables.old) call.slot cont.old }
-    requires app { IsItsApp (booted_with setup.now) cont.old (application_of call.app) }
+    requires line { IsInLine (booted_of_setup setup.now) (tables_of tables.old) call.slot cont.old }
+    requires app { IsItsApp (booted_of_setup setup.now) cont.old (application_of call.app) }
     requires unsettled { cont.old.kind ≡ CallKind.Settled → ⊥ }
     requires session { get (tables_of tables.old).sessions cont.old.session ≡ Some call.session }
     requires kept { is_some (get (tables_of tables.old).instances cont.old.instance) ≡ true }
@@ -223,7 +223,7 @@ fn begin(setup: &Setup, tables: &mut Tables, cont: &mut Cont<Pages>, call: Sessi
     requires pages { HasFreePages setup.now tables.old }
     ensures call { (given : Given) (one : PendingCall) (params : AnyParams) (instance : AnyInstance) → IsWaitingCall cont.old one params
         → get (tables_of tables.old).instances cont.old.instance ≡ Some instance
-        → (let r = resumed_in (booted_with setup.now) (tables_of tables.old) call.slot given one in
+        → (let r = resumed_in (booted_of_setup setup.now) (tables_of tables.old) call.slot given one in
         HasCome (tables_of tables.new) cont.new (begins r (begins_on (who_resumes r) call.session instance params (points_of call.points)))) }
     ensures pages { HasFreePages setup.now tables.new }
 {

@@ -5,7 +5,7 @@ ghost use Rattle.std.specs.Option.{option_map};
 ghost use Rattle.kernel_model.specs.Kernel.{Kernel};
 ghost use Rattle.kernel_state.specs.Meaning.{booted_of, events_of, kernel_of, terms_of};
 ghost use Rattle.kernel_state.specs.Replay.{Replays};
-ghost use Rattle.kernel_state.specs.Setup.{booted_with};
+ghost use Rattle.kernel_state.specs.Setup.{booted_of_setup};
 ghost use Rattle.live_play.specs.Showing.{told_by};
 ghost use Rattle.live_play.specs.State.{count_lines, state_text};
 ghost use Rattle.shown_lines.specs.Asking.{CanTell};
@@ -23,7 +23,7 @@ use std::alloc::{AllocError, Global};
 /// Appends the lines of counts.
 fn push_counts(text: &mut Vec<u8>, parts: &Parts) -> Result<(), AllocError>
     ensures { (so : Replays parts.now) → OnOk result (text.new.items
-        ≡ text.old.items ++ count_lines (booted_with parts.now.setup) so.kernel parts.now.journal.events) }
+        ≡ text.old.items ++ count_lines (booted_of_setup parts.now.setup) so.kernel parts.now.journal.events) }
 {
     push_count(text, b"sessions", parts.tables.sessions.len() as u64)?;
     push_count(text, b"buffers", parts.tables.registry.len() as u64)?;
@@ -35,7 +35,7 @@ fn push_counts(text: &mut Vec<u8>, parts: &Parts) -> Result<(), AllocError>
 /// Appends the lines of all that a core keeps.
 fn push_state(alloc: Global, text: &mut Vec<u8>, parts: &Parts) -> Result<(), AllocError>
     ensures { (so : Replays parts.now) → OnOk result (text.new.items
-        ≡ text.old.items ++ state_text (booted_with parts.now.setup) so.kernel parts.now.journal.events) }
+        ≡ text.old.items ++ state_text (booted_of_setup parts.now.setup) so.kernel parts.now.journal.events) }
 {
     push_slots(
         alloc,
@@ -58,7 +58,7 @@ fn push_parts(
 ) -> Result<(), AllocError>
     requires { CanTell parts.now.journal.keeps question.now }
     ensures { (so : Replays parts.now) → OnOk result (text.new.items
-        ≡ text.old.items ++ told_by (booted_with parts.now.setup) so.kernel parts.now.journal.events question.now) }
+        ≡ text.old.items ++ told_by (booted_of_setup parts.now.setup) so.kernel parts.now.journal.events question.now) }
 {
     match question {
         Question::Watch(_) => Ok(()),

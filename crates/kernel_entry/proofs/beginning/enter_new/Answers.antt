@@ -2,7 +2,7 @@
 use Rattle.std.proofs.Common.{◌≡◌, ◌<◌, Some, length, subst, sym}
 use Rattle.kernel_model.specs.Decision.{Takes}
 use Rattle.kernel_model.specs.Kernel.{Kernel}
-use Rattle.kernel_state.specs.Setup.{booted_with}
+use Rattle.kernel_state.specs.Setup.{booted_of_setup}
 use Rattle.kernel_state.specs.Tables.{tables_of}
 use Rattle.kernel_state.specs.Work.{IsCarriedAs}
 use Rattle.new_calls.specs.Applying.{CanApply}
@@ -28,15 +28,15 @@ enter_with-requires-clause-plan c =
 pub returns-clause-stands : goal.returns-clause-stands
 returns-clause-stands c =
     subst (λ (call : PlannedCall).
-    CanApply (call_with (booted_with c.args.parts.now.setup) (tables_of c.args.parts.now.tables) call.entered) call.plan → (kernel : Kernel) →
+    CanApply (call_with (booted_of_setup c.args.parts.now.setup) (tables_of c.args.parts.now.tables) call.entered) call.plan → (kernel : Kernel) →
     StandsAfter c.args.parts.now c.enter_with.new.parts c.args.visitor kernel
-    (Takes call.entered.slot (taken_of (call_with (booted_with c.args.parts.now.setup) (tables_of c.args.parts.now.tables) call.entered) call.plan)))
+    (Takes call.entered.slot (taken_of (call_with (booted_of_setup c.args.parts.now.setup) (tables_of c.args.parts.now.tables) call.entered) call.plan)))
     c.into_inner-plan.ensures c.enter_with.ensures.stands
 
 pub returns-clause-carries : goal.returns-clause-carries
 returns-clause-carries c =
     subst (λ (call : PlannedCall).
-    CanApply (call_with (booted_with c.args.parts.now.setup) (tables_of c.args.parts.now.tables) call.entered) call.plan →
-    IsCarriedAs c.enter_with.result (taken_of (call_with (booted_with c.args.parts.now.setup) (tables_of c.args.parts.now.tables) call.entered) call.plan).call
-    (taken_of (call_with (booted_with c.args.parts.now.setup) (tables_of c.args.parts.now.tables) call.entered) call.plan).call.phase)
+    CanApply (call_with (booted_of_setup c.args.parts.now.setup) (tables_of c.args.parts.now.tables) call.entered) call.plan →
+    IsCarriedAs c.enter_with.result (taken_of (call_with (booted_of_setup c.args.parts.now.setup) (tables_of c.args.parts.now.tables) call.entered) call.plan).call
+    (taken_of (call_with (booted_of_setup c.args.parts.now.setup) (tables_of c.args.parts.now.tables) call.entered) call.plan).call.phase)
     c.into_inner-plan.ensures c.enter_with.ensures.carries

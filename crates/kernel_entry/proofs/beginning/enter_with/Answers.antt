@@ -1,7 +1,7 @@
 use Rattle.std.proofs.Common.{◌≡◌, ◌-◌, ℕ, List, [], ◌∷◌, ◌++◌, false, ap, ◌∙◌, arith}
 use Rattle.std.proofs.lemmas.Grind.{common_steps}
 use Rattle.std.specs.Prelude.{slice_set}
-use Rattle.kernel_state.specs.Setup.{booted_with}
+use Rattle.kernel_state.specs.Setup.{booted_of_setup}
 use Rattle.kernel_state.specs.Tables.{tables_of}
 use Rattle.kernel_state.specs.declared.cancellation.Cancellation.{Cancellation}
 use Rattle.kernel_state.specs.declared.parts.Parts.{Parts}
@@ -30,14 +30,14 @@ returns-clause-stands c applies kernel stands =
     let old = c.args.parts.now in
     let mid = c.take_slot.new.parts in
     let new = c.let_in.new.parts in
-    let model = call_with (booted_with old.setup) (tables_of old.tables) c.args.entered in
+    let model = call_with (booted_of_setup old.setup) (tables_of old.tables) c.args.entered in
     let taken = taken_of model c.args.plan in
     let beside_of : Cont (List ℕ) → Cancellation = λ cont. record { session = cont.session; cancel_id = c.args.entered.head.cancel_id; marked = false } in
     let beside : Cancellation = beside_of c.deref.result.now in
     let keyed : c.deref_mut.result.now.key ≡ old.setup.key = ap (λ (cont : Cont (List ℕ)). cont.key) c.deref_mut.ensures.value ∙ c.take-cont.ensures.key in
     let shown : c.deref.result.now ≡ c.apply.new.cont = let e = c.deref.ensures in let b = c.deref_mut.ensures.writes_back in cc in
     let takes = new_takes old mid new c.args.visitor c.args.entered c.args.plan c.is_cancel-cancels.result beside c.take-cont.new.self c.apply.new.tables c.apply.new.cont c.args.reads
-    c.is_cancel-cancels.ensures (c.apply.ensures.taken (booted_with old.setup) keyed applies) (c.apply.ensures.pages old.setup applies stands.pages) (ap beside_of shown)
+    c.is_cancel-cancels.ensures (c.apply.ensures.taken (booted_of_setup old.setup) keyed applies) (c.apply.ensures.pages old.setup applies stands.pages) (ap beside_of shown)
     c.take_slot.ensures c.let_in.ensures in
     let journal : mid.journal ≡ old.journal = ap (λ (parts : Parts). parts.journal) c.take_slot.ensures.stays in
     let processors : mid.processors.items ≡ old.processors.items = ap (λ (parts : Parts). parts.processors.items) c.take_slot.ensures.stays in
@@ -51,5 +51,5 @@ pub returns-clause-carries : goal.returns-clause-carries
 returns-clause-carries c applies =
     let old = c.args.parts.now in
     let keyed : c.deref_mut.result.now.key ≡ old.setup.key = ap (λ (cont : Cont (List ℕ)). cont.key) c.deref_mut.ensures.value ∙ c.take-cont.ensures.key in
-    let has = c.apply.ensures.taken (booted_with old.setup) keyed applies in
+    let has = c.apply.ensures.taken (booted_of_setup old.setup) keyed applies in
     grind (arith, common_steps, has.call)

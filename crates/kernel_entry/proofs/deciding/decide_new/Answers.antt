@@ -1,6 +1,6 @@
 use Rattle.std.proofs.Common.{◌∙◌, refl, sym}
 use Rattle.kernel_model.specs.Decision as model
-use Rattle.kernel_state.specs.Setup.{booted_with}
+use Rattle.kernel_state.specs.Setup.{booted_of_setup}
 use Rattle.kernel_state.specs.Tables.{tables_of}
 use Rattle.new_calls.specs.Deciding.{call_with, taken_of}
 use Rattle.kernel_entry.proofs.Decisions.{new_so}
@@ -14,7 +14,7 @@ returns-in-Answers-clause-decides c kernel stands =
 pub returns-in_ok-call-in-Takes-clause-decides : goal.returns-in_ok-call-in-Takes-clause-decides
 returns-in_ok-call-in-Takes-clause-decides c kernel stands =
     let parts = c.args.parts.now in
-    let taken = taken_of (call_with (booted_with parts.setup) (tables_of parts.tables) c.in-Takes.entered) c.in-Takes.plan in
+    let taken = taken_of (call_with (booted_of_setup parts.setup) (tables_of parts.tables) c.in-Takes.entered) c.in-Takes.plan in
     rw c.in_ok-call-in-Takes.ensures.ok (new_so parts kernel c.args.regs.now.a c.args.lane.now c.args.reads.now c.new_call.new.reads c.in_ok-decided.decided c.lowest_free-free.result
     (model.Takes c.in-Takes.entered.slot taken) c.lowest_free-free.ensures.slot (rw c.in-Takes.is refl) stands c.in_ok-decided.ensures.decides)
 

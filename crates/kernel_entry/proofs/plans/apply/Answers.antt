@@ -1,6 +1,6 @@
 use Rattle.std.proofs.Common.{sym, subst}
 use Rattle.kernel_model.specs.Kernel as model
-use Rattle.kernel_state.specs.Setup.{booted_with}
+use Rattle.kernel_state.specs.Setup.{booted_of_setup}
 use Rattle.new_calls.specs.Applying.{CanApply}
 use Rattle.new_calls.specs.Deciding.{call_found, taken_of}
 use Rattle.kernel_entry.specs.Applying.{IsTaken, meant_by}
@@ -28,5 +28,5 @@ returns-clause-pages c setup applies has =
     let entered = c.args.entered.now in
     let is = pinned_is c.args.tables.now c.pin_argument.new.registry entered c.pin_argument.ensures in
     c.apply_plan.ensures.pages setup
-    (subst (λ (t : model.Tables). CanApply (call_found (booted_with setup) t entered) c.args.plan) (sym is) applies)
+    (subst (λ (t : model.Tables). CanApply (call_found (booted_of_setup setup) t entered) c.args.plan) (sym is) applies)
     (pages_pinned setup c.args.tables.now c.pin_argument.new.registry has)

@@ -4,7 +4,7 @@ use Rattle.kernel_model.specs.Instances.{killed}
 use Rattle.kernel_model.specs.Kernel.{Tables}
 use Rattle.kernel_model.specs.Sessions.{has_opened}
 use Rattle.kernel_state.specs.Calls.{bytes_of}
-use Rattle.kernel_state.specs.Setup.{booted_with}
+use Rattle.kernel_state.specs.Setup.{booted_of_setup}
 use Rattle.kernel_state.specs.Tables.{tables_of}
 use Rattle.rpc_cont.specs.Conts.{kept_memory}
 use Rattle.kernel_exit.specs.Ending.{without_instance}
@@ -16,7 +16,7 @@ use Rattle.kernel_exit.proofs.instances.give_back_dead.Goals as goal
 pub returns-then-goes-clause-tables : goal.returns-then-goes-clause-tables
 returns-then-goes-clause-tables c = λ call same.
     let memory = kept_memory bytes_of c.args.memory in
-    let boot = booted_with c.args.setup.now in
+    let boot = booted_of_setup c.args.setup.now in
     let there = is_there boot (seen c.args.tables.now.instances) c.args.number (length memory) c.requires.held in
     let opened = has_opened c.args.tables.now.sessions.kept c.args.number in
     let dead = ap (λ (b : Bool). false || (b && not opened)) (killed_dead boot (seen c.args.tables.now.instances) c.args.number (length memory) c.requires.held) in

@@ -5,7 +5,7 @@ use Rattle.frame_pool.specs.Pool.{Frames}
 use Rattle.kernel_model.specs.Instances.{free_pages, given_back}
 use Rattle.kernel_model.specs.Kernel.{Instance}
 use Rattle.kernel_state.specs.Calls.{bytes_of}
-use Rattle.kernel_state.specs.Setup.{booted_with}
+use Rattle.kernel_state.specs.Setup.{booted_of_setup}
 use Rattle.kernel_state.specs.Tables.{instance_of, tables_of}
 use Rattle.rpc_cont.specs.Conts.{kept_memory}
 use Rattle.ta_instances.specs.Instance as low
@@ -15,23 +15,23 @@ use Rattle.kernel_exit.proofs.Seen.{changed_seen, dead_gets_none, is_held_low, n
 use Rattle.kernel_exit.proofs.instances.put_back.Goals as goal
 
 pub give_back_from-requires-clause-held : goal.give_back_from-requires-clause-held
-give_back_from-requires-clause-held c = is_held_low (booted_with c.args.setup.now) c.args.tables.now.instances c.args.number _ c.requires.held
+give_back_from-requires-clause-held c = is_held_low (booted_of_setup c.args.setup.now) c.args.tables.now.instances c.args.number _ c.requires.held
 
 pub give_back_from-requires-clause-dead : goal.give_back_from-requires-clause-dead
 give_back_from-requires-clause-dead c =
-    dead_gets_none (booted_with c.args.setup.now) c.args.tables.now.instances c.args.number _ None c.requires.held (λ dead. refl)
+    dead_gets_none (booted_of_setup c.args.setup.now) c.args.tables.now.instances c.args.number _ None c.requires.held (λ dead. refl)
 
 pub give_back_from-requires-else-is_dead-clause-held : goal.give_back_from-requires-else-is_dead-clause-held
-give_back_from-requires-else-is_dead-clause-held c = is_held_low (booted_with c.args.setup.now) c.args.tables.now.instances c.args.number _ c.requires.held
+give_back_from-requires-else-is_dead-clause-held c = is_held_low (booted_of_setup c.args.setup.now) c.args.tables.now.instances c.args.number _ c.requires.held
 
 pub give_back_from-requires-else-is_dead-clause-dead : goal.give_back_from-requires-else-is_dead-clause-dead
 give_back_from-requires-else-is_dead-clause-dead c =
-    dead_gets_none (booted_with c.args.setup.now) c.args.tables.now.instances c.args.number _ c.args.memory c.requires.held
+    dead_gets_none (booted_of_setup c.args.setup.now) c.args.tables.now.instances c.args.number _ c.args.memory c.requires.held
     (λ dead. absurd (cc (dead, c.is_dead.ensures, c.if-is_dead.false)))
 
 pub returns-then-is_dead-clause-tables : goal.returns-then-is_dead-clause-tables
 returns-then-is_dead-clause-tables c =
-    let boot = booted_with c.args.setup.now in
+    let boot = booted_of_setup c.args.setup.now in
     let memory = kept_memory bytes_of c.args.memory in
     let none = no_bytes memory (dead_empty boot (seen c.args.tables.now.instances) c.args.number (length memory) c.requires.held (sym c.is_dead.ensures ∙ c.if-is_dead.true)) in
     ap (λ (m : NumberMap Instance). record (tables_of c.args.tables.now) { instances = m })
@@ -40,7 +40,7 @@ returns-then-is_dead-clause-tables c =
 
 pub returns-then-is_dead-clause-pages : goal.returns-then-is_dead-clause-pages
 returns-then-is_dead-clause-pages c =
-    let boot = booted_with c.args.setup.now in
+    let boot = booted_of_setup c.args.setup.now in
     let memory = kept_memory bytes_of c.args.memory in
     let empty = dead_empty boot (seen c.args.tables.now.instances) c.args.number (length memory) c.requires.held (sym c.is_dead.ensures ∙ c.if-is_dead.true) in
     let none = no_bytes memory empty in
@@ -57,7 +57,7 @@ returns-then-is_dead-clause-pages c =
 
 pub returns-then-is_dead-clause-free : goal.returns-then-is_dead-clause-free
 returns-then-is_dead-clause-free c =
-    let boot = booted_with c.args.setup.now in
+    let boot = booted_of_setup c.args.setup.now in
     let memory = kept_memory bytes_of c.args.memory in
     let none = no_bytes memory (dead_empty boot (seen c.args.tables.now.instances) c.args.number (length memory) c.requires.held (sym c.is_dead.ensures ∙ c.if-is_dead.true)) in
     let gives = given_back_so boot (seen c.args.tables.now.instances) c.args.number memory c.args.objects.now c.requires.held in
@@ -74,7 +74,7 @@ returns-else-is_dead-clause-tables c =
 
 pub returns-else-is_dead-clause-pages : goal.returns-else-is_dead-clause-pages
 returns-else-is_dead-clause-pages c =
-    let boot = booted_with c.args.setup.now in
+    let boot = booted_of_setup c.args.setup.now in
     let memory = kept_memory bytes_of c.args.memory in
     let gives = given_back_so boot (seen c.args.tables.now.instances) c.args.number memory c.args.objects.now c.requires.held in
     let seen_now = ap seen c.give_back_from-else-is_dead.ensures.after ∙ changed_seen c.args.tables.now.instances c.args.number (low.given_back c.args.memory c.args.objects.now) (given_back memory c.args.objects.now) (λ i. refl) in
@@ -86,7 +86,7 @@ returns-else-is_dead-clause-pages c =
 
 pub returns-else-is_dead-clause-free : goal.returns-else-is_dead-clause-free
 returns-else-is_dead-clause-free c =
-    let boot = booted_with c.args.setup.now in
+    let boot = booted_of_setup c.args.setup.now in
     let memory = kept_memory bytes_of c.args.memory in
     let gives = given_back_so boot (seen c.args.tables.now.instances) c.args.number memory c.args.objects.now c.requires.held in
     let seen_now = ap seen c.give_back_from-else-is_dead.ensures.after ∙ changed_seen c.args.tables.now.instances c.args.number (low.given_back c.args.memory c.args.objects.now) (given_back memory c.args.objects.now) (λ i. refl) in

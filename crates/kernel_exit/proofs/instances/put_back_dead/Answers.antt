@@ -6,7 +6,7 @@ use Rattle.frame_pool.specs.Pool.{Frames}
 use Rattle.kernel_model.specs.Instances.{free_pages, killed}
 use Rattle.kernel_model.specs.Kernel.{Instance}
 use Rattle.kernel_state.specs.Calls.{bytes_of}
-use Rattle.kernel_state.specs.Setup.{booted_with}
+use Rattle.kernel_state.specs.Setup.{booted_of_setup}
 use Rattle.kernel_state.specs.Tables.{tables_of}
 use Rattle.rpc_cont.specs.Conts.{kept_memory}
 use Rattle.ta_instances.specs.Instance as low
@@ -16,11 +16,11 @@ use Rattle.kernel_exit.proofs.Seen.{changed_seen, is_held_low, seen}
 use Rattle.kernel_exit.proofs.instances.put_back_dead.Goals as goal
 
 pub kill-requires : goal.kill-requires
-kill-requires c = is_held_low (booted_with c.args.setup.now) c.args.tables.now.instances c.args.number _ c.requires.held
+kill-requires c = is_held_low (booted_of_setup c.args.setup.now) c.args.tables.now.instances c.args.number _ c.requires.held
 
 pub release-requires : goal.release-requires
 release-requires c =
-    let boot = booted_with c.args.setup.now in
+    let boot = booted_of_setup c.args.setup.now in
     let memory = kept_memory bytes_of c.args.memory in
     let gives = killed_so boot (seen c.args.tables.now.instances) c.args.number memory c.requires.held in
     let fits = change_fits boot (seen c.args.tables.now.instances) c.args.number (length memory) (page_count memory) c.args.tables.now.pool.free killed c.requires.held gives c.requires.pages.free in
@@ -33,7 +33,7 @@ returns-clause-tables c =
 
 pub returns-clause-pages : goal.returns-clause-pages
 returns-clause-pages c =
-    let boot = booted_with c.args.setup.now in
+    let boot = booted_of_setup c.args.setup.now in
     let memory = kept_memory bytes_of c.args.memory in
     let gives = killed_so boot (seen c.args.tables.now.instances) c.args.number memory c.requires.held in
     let seen_now = ap seen c.kill.ensures ∙ changed_seen c.args.tables.now.instances c.args.number low.killed killed (λ i. refl) in
@@ -45,7 +45,7 @@ returns-clause-pages c =
 
 pub returns-clause-free : goal.returns-clause-free
 returns-clause-free c =
-    let boot = booted_with c.args.setup.now in
+    let boot = booted_of_setup c.args.setup.now in
     let memory = kept_memory bytes_of c.args.memory in
     let gives = killed_so boot (seen c.args.tables.now.instances) c.args.number memory c.requires.held in
     let seen_now = ap seen c.kill.ensures ∙ changed_seen c.args.tables.now.instances c.args.number low.killed killed (λ i. refl) in

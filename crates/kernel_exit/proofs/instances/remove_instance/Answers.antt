@@ -6,7 +6,7 @@ use Rattle.frame_pool.specs.Pages.{page_count}
 use Rattle.frame_pool.specs.Pool.{Frames}
 use Rattle.kernel_model.specs.Instances.{free_pages}
 use Rattle.kernel_model.specs.Kernel.{Instance}
-use Rattle.kernel_state.specs.Setup.{booted_with}
+use Rattle.kernel_state.specs.Setup.{booted_of_setup}
 use Rattle.kernel_state.specs.Tables.{instance_of, tables_of}
 use Rattle.kernel_exit.specs.Ending.{IsFreeWith}
 use Rattle.kernel_exit.proofs.GivenBack.{removal_fits, removal_frees}
@@ -14,11 +14,11 @@ use Rattle.kernel_exit.proofs.Seen.{found_there, is_free_low, memory_came, seen}
 use Rattle.kernel_exit.proofs.instances.remove_instance.Goals as goal
 
 pub remove-memory-requires : goal.remove-memory-requires
-remove-memory-requires c = is_free_low (booted_with c.args.setup.now) c.args.tables.now.instances c.args.number c.requires.free
+remove-memory-requires c = is_free_low (booted_of_setup c.args.setup.now) c.args.tables.now.instances c.args.number c.requires.free
 
 pub release-requires : goal.release-requires
 release-requires c =
-    let boot = booted_with c.args.setup.now in
+    let boot = booted_of_setup c.args.setup.now in
     let found = found_there c.args.tables.now.instances c.args.number (IsFreeWith boot) c.requires.free.free in
     let came = memory_came c.args.tables.now.instances c.args.number found.instance c.remove-memory.result found.kept c.remove-memory.ensures.memory in
     let fits = removal_fits boot (seen c.args.tables.now.instances) c.args.number c.args.tables.now.pool.free (instance_of found.instance) c.requires.free found.seen_kept c.requires.pages.free in
@@ -31,7 +31,7 @@ returns-clause-tables c =
 
 pub returns-clause-pages : goal.returns-clause-pages
 returns-clause-pages c =
-    let boot = booted_with c.args.setup.now in
+    let boot = booted_of_setup c.args.setup.now in
     let found = found_there c.args.tables.now.instances c.args.number (IsFreeWith boot) c.requires.free.free in
     let came = memory_came c.args.tables.now.instances c.args.number found.instance c.remove-memory.result found.kept c.remove-memory.ensures.memory in
     let seen_now = ap seen c.remove-memory.ensures.after ∙ remove_seen instance_of c.args.tables.now.instances c.args.number in

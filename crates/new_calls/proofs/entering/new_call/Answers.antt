@@ -1,5 +1,5 @@
 use Rattle.std.proofs.Common.{refl}
-use Rattle.kernel_state.specs.Setup.{booted_with}
+use Rattle.kernel_state.specs.Setup.{booted_of_setup}
 use Rattle.kernel_state.specs.Tables.{tables_of}
 use Rattle.new_calls.proofs.Coming.{is_answered, is_taken}
 use Rattle.new_calls.specs.Commands.{tests_of}
@@ -8,7 +8,7 @@ use Rattle.new_calls.proofs.entering.new_call.Goals as goal
 
 pub returns-in-Err-Answer-clause-decides : goal.returns-in-Err-Answer-clause-decides
 returns-in-Err-Answer-clause-decides c =
-    let boot = booted_with c.args.found.now.setup.now in
+    let boot = booted_of_setup c.args.found.now.setup.now in
     let tables = tables_of c.args.found.now.tables.now in
     rw c.in-Err-Answer.field-0-is
     (is_answered boot tables c.args.regs.now.a c.args.found.now.free c.in-Some.slot c.args.lane.now c.args.reads.now c.come_in.new.reads c.in-Err-Answer.answer
@@ -16,7 +16,7 @@ returns-in-Err-Answer-clause-decides c =
 
 pub returns-clause-decides : goal.returns-clause-decides
 returns-clause-decides c =
-    let boot = booted_with c.args.found.now.setup.now in
+    let boot = booted_of_setup c.args.found.now.setup.now in
     let tables = tables_of c.args.found.now.tables.now in
     let call = call_with boot tables c.in-Ok.came.0 in
     is_taken boot tables c.args.regs.now.a c.args.found.now.free c.in-Some.slot c.args.lane.now c.args.reads.now c.come_in.new.reads c.plan.new.reads

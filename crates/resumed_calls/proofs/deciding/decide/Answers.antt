@@ -1,6 +1,6 @@
 use Rattle.std.proofs.Common.{None, refl}
 use Rattle.kernel_model.specs.Argument.{thread_in}
-use Rattle.kernel_state.specs.Setup.{booted_with}
+use Rattle.kernel_state.specs.Setup.{booted_of_setup}
 use Rattle.resumed_calls.proofs.Decides.{app_handed_out, can_be_given, is_decided, is_refused}
 use Rattle.resumed_calls.proofs.deciding.decide.Goals as goal
 
@@ -19,4 +19,4 @@ returns-clause-ok c =
 
 pub returns-clause-app : goal.returns-clause-app
 returns-clause-app c cont handed =
-    app_handed_out (booted_with c.args.setup.now) cont.value c.in-Some.cont.now c.in_ok-app.app (c.in-Some.ensures.there cont handed) c.in_ok-app.ensures
+    app_handed_out (booted_of_setup c.args.setup.now) cont.value c.in-Some.cont.now c.in_ok-app.app (c.in-Some.ensures.there cont handed) c.in_ok-app.ensures
