@@ -8,7 +8,7 @@ use Rattle.event_journal.specs.declared.event.Event.{Event}
 use Rattle.event_journal.specs.declared.event.Event.TheVariants.{Entry, Exit}
 use Rattle.kernel_model.specs.Application.{Booted}
 use Rattle.smc_port.specs.Smc.{Smc}
-use Rattle.core_port.specs.Smcs.{Told, events_of_smc, history_of, nothing_told, smc_ended, smcs_in, told_by, told_with, writes_behind}
+use Rattle.core_port.specs.Smcs.{Told, events_of_smc, history_of, nothing_told, smc_ended, smcs_in, smcs_of_history, told_with, writes_behind}
 use Rattle.core_port.proofs.Told.{history_behind, smcs_behind}
 use Rattle.client_play.specs.Served.{HaveTheirWrites}
 
@@ -38,7 +38,7 @@ module _ (boot : Booted) where
         answer = smc.answer;
         writes = writes_behind boot (up_to before smc) 0;
       } in
-      let later = grown (told_by boot first) (history_of rest) in
+      let later = grown (smcs_of_history boot first) (history_of rest) in
       let whole : history_of (before ++ smc ∷ rest) ≡ first ++ history_of rest =
       flat_map-append events_of_smc before (smc ∷ rest)
       ∙ sym (append_assoc (history_of before) (Entry 0 smc.regs 10000 smc.reads ∷ []) (out ∷ history_of rest))

@@ -10,10 +10,10 @@ use Rattle.kernel_model.specs.Application.{Booted}
 use Rattle.ns_ram.specs.declared.read.Read.{Read}
 use Rattle.smc_abi.specs.declared.regs.Regs.{Regs}
 use Rattle.smc_port.specs.Smc.{Smc}
-use Rattle.core_port.specs.Smcs.{Told, events_of_smc, history_of, nothing_told, smcs_in, told_by, told_with, writes_behind}
+use Rattle.core_port.specs.Smcs.{Told, events_of_smc, history_of, nothing_told, smcs_in, smcs_of_history, told_with, writes_behind}
 
 one_more : (boot : Booted) (history : List Event) (event : Event)
-    → told_by boot (history ++ event ∷ []) ≡ told_with boot (told_by boot history) event
+    → smcs_of_history boot (history ++ event ∷ []) ≡ told_with boot (smcs_of_history boot history) event
 one_more boot history event = fold-append (told_with boot) nothing_told history (event ∷ [])
 
 -- the events are those that were told
@@ -28,7 +28,7 @@ events_from boot told (event ∷ history) =
     ∙ ap (λ (events : List Event). events ++ history) (told_on boot told event)
     ∙ append_assoc told.events (event ∷ []) history
 
-events_told : (boot : Booted) (history : List Event) → (told_by boot history).events ≡ history
+events_told : (boot : Booted) (history : List Event) → (smcs_of_history boot history).events ≡ history
 events_told boot history = events_from boot nothing_told history
 
 -- an entry and its exit more are one SMC more

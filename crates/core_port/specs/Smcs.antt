@@ -38,12 +38,12 @@ told_with boot told (Entry cpu regs steps reads) =
 told_with boot told (Exit cpu answer) =
     record told { events = told.events ++ Exit cpu answer ∷ []; smcs = told.smcs ++ smc_ended boot told cpu answer ∷ [] }
 
-abbrev pub told_by : Booted → List Event → Told
-told_by boot history = fold (told_with boot) nothing_told history
+abbrev pub smcs_of_history : Booted → List Event → Told
+smcs_of_history boot history = fold (told_with boot) nothing_told history
 
 -- the SMCs of a history in which each entry is followed by its exit
 abbrev pub smcs_in : Booted → List Event → List Smc
-smcs_in boot history = (told_by boot history).smcs
+smcs_in boot history = (smcs_of_history boot history).smcs
 
 -- ---- a history of one processor
 

@@ -10,7 +10,7 @@ use Rattle.instance_groups.specs.Noted.{AreNoted, HasFinishedAs, has_called, wit
 use Rattle.instance_groups.specs.declared.notes.Notes.{Notes}
 use Rattle.instance_groups.proofs.WentOut.{gone_noted, group_finished, group_left}
 use Rattle.isolation.specs.Noted.{AreNumbers, IsLeft, without_slot}
-use Rattle.isolation.specs.Telling.{told_by, wake_as}
+use Rattle.isolation.specs.Telling.{reply_of_call, wake_as}
 use Rattle.kernel_model.specs.Kernel.{PendingCall}
 use Rattle.own_model.specs.Own as own
 use Rattle.own_model.specs.declared.own_reply.OwnReply.{OwnReply}
@@ -69,13 +69,13 @@ module _ (old new : Notes) (notes : group.Notes) (are : AreNoted old notes) wher
   pub out_noted : (slot number : ℕ) (call : PendingCall) (cont : Cont (List ℕ)) → IsLeft slot call cont
       → (let woken = own.wake_kept notes.numbering slot (wake_as cont) in
       AreNumbers new.numbering (own.with_wake notes.numbering slot woken)
-      → new.log.items ≡ with_told old.log.items number (told_by cont woken)
+      → new.log.items ≡ with_told old.log.items number (reply_of_call cont woken)
       → new.sessions.entries ≡ old.sessions.entries → new.next_session ≡ old.next_session
       → AreNoted new (group.exit_noted notes slot call number))
   out_noted slot number call cont is numbers log sessions next =
       let woken = own.wake_kept notes.numbering slot (wake_as cont) in
       subst (λ (n : group.Notes). AreNoted new n) (sym (group_left notes slot number call cont is))
-      (told_listed number (told_by cont woken) (own.with_wake notes.numbering slot woken) log numbers sessions next)
+      (told_listed number (reply_of_call cont woken) (own.with_wake notes.numbering slot woken) log numbers sessions next)
 
   pub finished_noted : (slot number : ℕ) (call : PendingCall) (told : OwnReply) (opened : Option ℕ) (reply : GroupReply)
       → HasFinishedAs slot call told opened → AreNumbers new.numbering (without_slot notes.numbering slot)

@@ -6,7 +6,7 @@ use Rattle.base.specs.NumberMap.{get}
 use Rattle.group_model.specs.Read.{Notes, exit_noted, opened_in, with_reply}
 use Rattle.instance_groups.specs.Noted.{HasFinishedAs, opened_so}
 use Rattle.isolation.specs.Noted.{HasFinished, IsLeft, without_slot}
-use Rattle.isolation.specs.Telling.{told_by, wake_as}
+use Rattle.isolation.specs.Telling.{reply_of_call, wake_as}
 use Rattle.isolation.proofs.LeftCalls.{noted_finished, noted_left}
 use Rattle.job_model.specs.declared.call_kind.CallKind.{CallKind}
 use Rattle.job_model.specs.declared.call_kind.CallKind.TheVariants as kind
@@ -46,11 +46,11 @@ module _ (numbers : own.Numbering) where
   NumbersOf slot call = own.slot_kept (own.with_wake numbers slot (own.wake_kept numbers slot (own.wake_of call.phase))) slot (leaving_of slot call)
 
   left_reply : (slot : ℕ) (call : PendingCall) (cont : Cont (List ℕ)) → IsLeft slot call cont
-      → ReplyOf slot call ≡ told_by cont (own.wake_kept numbers slot (wake_as cont))
+      → ReplyOf slot call ≡ reply_of_call cont (own.wake_kept numbers slot (wake_as cont))
   left_reply slot call cont is =
       sym (shown 0 (ReplyOf slot call))
       ∙ ap (λ (n : own.Notes). first_told n.log) (noted_left beside slot 0 call cont is)
-      ∙ shown 0 (told_by cont (own.wake_kept numbers slot (wake_as cont)))
+      ∙ shown 0 (reply_of_call cont (own.wake_kept numbers slot (wake_as cont)))
 
   left_numbers : (slot : ℕ) (call : PendingCall) (cont : Cont (List ℕ)) → IsLeft slot call cont
       → NumbersOf slot call ≡ own.with_wake numbers slot (own.wake_kept numbers slot (wake_as cont))
@@ -106,14 +106,14 @@ module _ (notes : Notes) (call : PendingCall) where
 
 pub group_left : (notes : Notes) (slot number : ℕ) (call : PendingCall) (cont : Cont (List ℕ)) → IsLeft slot call cont
     → exit_noted notes slot call number
-    ≡ gone_noted notes number None (told_by cont (own.wake_kept notes.numbering slot (wake_as cont)))
+    ≡ gone_noted notes number None (reply_of_call cont (own.wake_kept notes.numbering slot (wake_as cont)))
     (own.with_wake notes.numbering slot (own.wake_kept notes.numbering slot (wake_as cont)))
 group_left notes slot number call cont is =
     ap (λ (o : Option ℕ). gone_noted notes number o (ReplyOf notes.numbering slot call) (NumbersOf notes.numbering slot call))
     (nothing_opened notes call call.kind (leaving_of slot call) is.left is.in_slot)
     ∙ ap (λ (r : Option OwnReply). gone_noted notes number None r (NumbersOf notes.numbering slot call))
     (left_reply notes.numbering slot call cont is)
-    ∙ ap (λ (n : own.Numbering). gone_noted notes number None (told_by cont (own.wake_kept notes.numbering slot (wake_as cont))) n)
+    ∙ ap (λ (n : own.Numbering). gone_noted notes number None (reply_of_call cont (own.wake_kept notes.numbering slot (wake_as cont))) n)
     (left_numbers notes.numbering slot call cont is)
 
 pub group_finished : (notes : Notes) (slot number : ℕ) (call : PendingCall) (told : OwnReply) (opened : Option ℕ)

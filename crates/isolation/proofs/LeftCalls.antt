@@ -21,7 +21,7 @@ use Rattle.rpc_msgs.specs.declared.request_place.RequestPlace.{RequestPlace}
 use Rattle.rpc_msgs.specs.declared.rpc.Rpc.TheVariants as rpc
 use Rattle.rpc_msgs.specs.declared.rpc_buffer.RpcBuffer.{RpcBuffer}
 use Rattle.isolation.specs.Noted.{HasFinished, IsLeft, ended_in, without_slot}
-use Rattle.isolation.specs.Telling.{asked_reply, asks_with_payload, has_place, told_behind, told_by, told_in, wake_as, wake_at}
+use Rattle.isolation.specs.Telling.{asked_reply, asks_with_payload, has_place, told_behind, reply_of_call, reply_of_phase, wake_as, wake_at}
 
 -- ---- what a call goes out with, by its phase, its area and its buffer
 
@@ -93,19 +93,19 @@ phase_as cont (Ends result params told wakes) is = (is.phase, is.wakes)
 
 -- by its phase, and whether what the call as data asks for has a place
 told_so : (cont : Cont (List ℕ)) (woken : Option ℕ) (at : Phase) (placed : Bool) → cont.phase ≡ at
-    → has_place cont ≡ placed → told_by cont woken ≡ told_in cont woken at placed
+    → has_place cont ≡ placed → reply_of_call cont woken ≡ reply_of_phase cont woken at placed
 told_so cont woken at placed is has =
-    ap (λ (p : Phase). told_in cont woken p (has_place cont)) is
-    ∙ ap (λ (b : Bool). told_in cont woken at b) has
+    ap (λ (p : Phase). reply_of_phase cont woken p (has_place cont)) is
+    ∙ ap (λ (b : Bool). reply_of_phase cont woken at b) has
 
 -- where it is told of what it asks for
 asked_told : (cont : Cont (List ℕ)) (woken : Option ℕ) (placed : Bool)
-    → told_in cont woken phase.Asks placed ≡ (if placed then option_map asked_reply cont.request else Some reply.Alloc)
+    → reply_of_phase cont woken phase.Asks placed ≡ (if placed then option_map asked_reply cont.request else Some reply.Alloc)
 asked_told cont woken true = refl
 asked_told cont woken false = refl
 
 waits_told : (cont : Cont (List ℕ)) (woken : Option ℕ) (placed : Bool)
-    → told_in cont woken phase.Waits placed ≡ (if placed then Some reply.Sleep else Some reply.Alloc)
+    → reply_of_phase cont woken phase.Waits placed ≡ (if placed then Some reply.Sleep else Some reply.Alloc)
 waits_told cont woken true = refl
 waits_told cont woken false = refl
 
@@ -133,7 +133,7 @@ abbrev TellsSo : ℕ → PendingCall → Cont (List ℕ) → Option ℕ → Call
 TellsSo slot call cont woken phase room =
     (left : PendingCall) → call.phase ≡ phase → room_of call ≡ room →
     slot_left call (leaving_at slot phase room) ≡ Suspended call.client left → IsCall cont left →
-    reply_of woken phase (leaving_at slot phase room) ≡ told_by cont woken
+    reply_of woken phase (leaving_at slot phase room) ≡ reply_of_call cont woken
 
 -- what is known of a call that stays as it is
 record Stayed (cont : Cont (List ℕ)) (phase : CallPhase) (room : Room) : Type 0 where
@@ -197,7 +197,7 @@ tells_so slot call cont woken (Ends result params told None) room left is has e 
     frees_so : (buffer : Option RpcBuffer) → room.buffer ≡ buffer
         → slot_left call (option_map_or FreesBuffer buffer (Finishes result params)) ≡ Suspended call.client left
         → reply_of woken (Ends result params told None) (option_map_or FreesBuffer buffer (Finishes result params))
-        ≡ told_by cont woken
+        ≡ reply_of_call cont woken
     frees_so None same free = absurd cc
     frees_so (Some place) same free =
         let now : PendingCall = record call { buffer = None } in
@@ -242,7 +242,7 @@ left_noted notes slot number woken reply =
 
 pub noted_left : (notes : Notes) (slot number : ℕ) (call : PendingCall) (cont : Cont (List ℕ)) → IsLeft slot call cont
     → exit_noted notes slot call number ≡ left_noted notes slot number (wake_kept notes.numbering slot (wake_as cont))
-    (told_by cont (wake_kept notes.numbering slot (wake_as cont)))
+    (reply_of_call cont (wake_kept notes.numbering slot (wake_as cont)))
 noted_left notes slot number call cont is =
     let leaving : Leaving = leaving_of slot call in
     let phase = left_phase slot call is.left leaving is.in_slot in
@@ -251,7 +251,7 @@ noted_left notes slot number call cont is =
     (subst (PhaseAs cont) phase (phase_as cont is.left.phase is.is.phase)))) in
     let at : leaving ≡ leaving_at slot call.phase (room_of call) = leaving_so slot call call.phase in
     let in_slot = subst (λ (l : Leaving). slot_left call l ≡ Suspended call.client is.left) at is.in_slot in
-    let told : (woken : Option ℕ) → reply_of woken call.phase leaving ≡ told_by cont woken =
+    let told : (woken : Option ℕ) → reply_of woken call.phase leaving ≡ reply_of_call cont woken =
     λ woken. ap (reply_of woken call.phase) at
     ∙ tells_so slot call cont woken call.phase (room_of call) is.left refl refl in_slot is.is in
     ap (λ (w : Option ℕ). (let after = option_map_or (with_reply number notes) (reply_of w call.phase leaving) notes in

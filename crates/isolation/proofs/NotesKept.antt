@@ -5,7 +5,7 @@ use Rattle.std.specs.Option.{option_map_or, option_or}
 use Rattle.base.specs.NumberMap.{get, insert}
 use Rattle.isolation.specs.Arriving.{NamesApp}
 use Rattle.isolation.specs.Noted.{AreNoted, AreNumbers, HasFinished, IsLeft, is_away, number_at, with_away, with_told, without_slot}
-use Rattle.isolation.specs.Telling.{told_by, wake_as}
+use Rattle.isolation.specs.Telling.{reply_of_call, wake_as}
 use Rattle.isolation.specs.declared.entering.NewEvent.{NewEvent}
 use Rattle.isolation.specs.declared.notes.Notes.{Notes}
 use Rattle.isolation.specs.declared.numbering.Numbering.{Numbering}
@@ -175,16 +175,16 @@ module _ (old new : Notes) (notes : own.Notes) (are : AreNoted old notes) where
 
   pub out_noted : (slot number : ℕ) (call : PendingCall) (cont : Cont (List ℕ)) → IsLeft slot call cont
       → (let woken = own.wake_kept notes.numbering slot (wake_as cont) in
-      AreNumbers new.numbering (own.with_wake notes.numbering slot woken) → LogsReply number (told_by cont woken)
+      AreNumbers new.numbering (own.with_wake notes.numbering slot woken) → LogsReply number (reply_of_call cont woken)
       → new.turned_away ≡ old.turned_away → new.uuid ≡ old.uuid → AreNoted new (own.exit_noted notes slot call number))
   out_noted slot number call cont is numbers log away uuid =
       let woken = own.wake_kept notes.numbering slot (wake_as cont) in
-      let now : AreNoted new (left_noted notes slot number woken (told_by cont woken)) = record {
-        uuid = uuid ∙ are.uuid ∙ sym (uuid_so (told_by cont woken) number);
+      let now : AreNoted new (left_noted notes slot number woken (reply_of_call cont woken)) = record {
+        uuid = uuid ∙ are.uuid ∙ sym (uuid_so (reply_of_call cont woken) number);
         numbering = numbers;
         turned_away = λ cpu below. ap (λ (bs : List Bool). slice_get bs cpu) away ∙ are.turned_away cpu below
-            ∙ ap (λ (l : List ℕ). Some (is_away l cpu)) (sym (away_so (told_by cont woken) number));
-        log = logs_so number (told_by cont woken) log;
+            ∙ ap (λ (l : List ℕ). Some (is_away l cpu)) (sym (away_so (reply_of_call cont woken) number));
+        log = logs_so number (reply_of_call cont woken) log;
       } in
       subst (λ (n : own.Notes). AreNoted new n) (sym (noted_left notes slot number call cont is)) now
 

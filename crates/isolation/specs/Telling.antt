@@ -45,16 +45,16 @@ told_behind true false woken = Some reply.Alloc
 told_behind true true woken = option_map (λ number. reply.Wake number) woken
 
 -- by how far it has come, and whether what it asks for has a place
-abbrev pub told_in : Cont (List ℕ) → Option ℕ → Phase → Bool → Option OwnReply
-told_in cont woken phase.Runs placed = None
-told_in cont woken phase.Asks false = Some reply.Alloc
-told_in cont woken phase.Asks true = option_map asked_reply cont.request
-told_in cont woken phase.Waits false = Some reply.Alloc
-told_in cont woken phase.Waits true = Some reply.Sleep
-told_in cont woken phase.Ends placed = told_behind (is_some (wake_as cont)) placed woken
+abbrev pub reply_of_phase : Cont (List ℕ) → Option ℕ → Phase → Bool → Option OwnReply
+reply_of_phase cont woken phase.Runs placed = None
+reply_of_phase cont woken phase.Asks false = Some reply.Alloc
+reply_of_phase cont woken phase.Asks true = option_map asked_reply cont.request
+reply_of_phase cont woken phase.Waits false = Some reply.Alloc
+reply_of_phase cont woken phase.Waits true = Some reply.Sleep
+reply_of_phase cont woken phase.Ends placed = told_behind (is_some (wake_as cont)) placed woken
 
-abbrev pub told_by : Cont (List ℕ) → Option ℕ → Option OwnReply
-told_by cont woken = told_in cont woken cont.phase (has_place cont)
+abbrev pub reply_of_call : Cont (List ℕ) → Option ℕ → Option OwnReply
+reply_of_call cont woken = reply_of_phase cont woken cont.phase (has_place cont)
 
 -- ---- a call that has finished
 

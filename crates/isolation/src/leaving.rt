@@ -1,7 +1,7 @@
 //! What is told of a call that goes out.
 ghost use Rattle.std.specs.Prelude.{◌≡◌, IfOk, is_some};
 ghost use Rattle.std.specs.Option.{option_and_then, option_map};
-ghost use Rattle.isolation.specs.Telling.{asked_reply, asks_with_payload, ended_as, has_place, told_at_end, told_behind, told_by, wake_as};
+ghost use Rattle.isolation.specs.Telling.{asked_reply, asks_with_payload, ended_as, has_place, told_at_end, told_behind, reply_of_call, wake_as};
 ghost use Rattle.kernel_state.specs.Calls.{woken_slot};
 
 use base::NoMemory;
@@ -89,7 +89,7 @@ pub fn reply_of(
     cont: &Cont<Pages>,
     woken: Option<u32>,
 ) -> Result<Option<OwnReply>, NoMemory>
-    ensures { IfOk result (λ reply. reply ≡ told_by cont.now woken) }
+    ensures { IfOk result (λ reply. reply ≡ reply_of_call cont.now woken) }
 {
     match (cont.phase, has_place(cont)) {
         (Phase::Runs, _) => Ok(None),

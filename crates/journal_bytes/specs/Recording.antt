@@ -14,8 +14,8 @@ abbrev pub nothing : Told
 nothing = record { boot = None; keyed = false; events = [] }
 
 -- what is kept while records are read
-abbrev pub told_by : Recording → Told
-told_by recording = record { boot = recording.header.boot; keyed = recording.header.keyed; events = recording.events.events }
+abbrev pub journal_so_far : Recording → Told
+journal_so_far recording = record { boot = recording.header.boot; keyed = recording.header.keyed; events = recording.events.events }
 
 -- the reader of traces, which takes the boot, has no items
 abbrev pub HasNoItem : Recording → Type 0

@@ -2,7 +2,7 @@
 
 ghost use Rattle.std.specs.Prelude.{◌≡◌, ◌≤◌, ◌^◌, ℕ, length, IfOk, IfErr};
 ghost use Rattle.journal_bytes.specs.Grammar.{IsFaultOf, IsFirstFault, IsReadUnlessMemory, IsRefusedUnlessMemory, Spells, Whole, whole_of};
-ghost use Rattle.journal_bytes.specs.Recording.{HasNoItem, told_by};
+ghost use Rattle.journal_bytes.specs.Recording.{HasNoItem, journal_so_far};
 ghost use Rattle.journal_bytes.specs.Sound.{IsSoundJournal};
 ghost use Rattle.journal_bytes.specs.Taking.{Ends, is_record};
 ghost use Rattle.trace_text.specs.Sound.{IsSoundBoot};
@@ -41,7 +41,7 @@ fn is_record(bytes: &[u8]) -> bool
 /// The journal, at its end, with which so many bytes and so many records have come.
 fn finish(recording: Recording, used: u32, records: u32) -> Result<ReadJournal, BadKind>
     requires { HasNoItem recording }
-    ensures { Ends result (told_by recording) used records }
+    ensures { Ends result (journal_so_far recording) used records }
 {
     let Recording { header, events } = recording;
     let Ok(Trace { boot, .. }) = header.finish() else {

@@ -1,5 +1,5 @@
 ghost use Rattle.std.specs.Prelude.{◌≡◌, []};
-ghost use Rattle.journal_bytes.specs.Recording.{HasNoItem, nothing, told_by};
+ghost use Rattle.journal_bytes.specs.Recording.{HasNoItem, nothing, journal_so_far};
 
 use event_journal::Journal;
 use std::alloc::Global;
@@ -15,7 +15,7 @@ pub struct Recording {
 impl Recording {
     /// Before the first of them. Takes no memory.
     pub fn new(alloc: Global) -> Recording
-        ensures told { told_by result ≡ nothing }
+        ensures told { journal_so_far result ≡ nothing }
         ensures header { HasNoItem result }
     {
         Recording {

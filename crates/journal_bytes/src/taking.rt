@@ -4,7 +4,7 @@ ghost use Rattle.std.specs.Prelude.{◌≡◌, ◌+◌, ◌^◌, ◌<◌, ◌≤
 ghost use Rattle.event_journal.specs.Event.{copied_by};
 ghost use Rattle.event_journal.specs.Journal.{copied_bytes};
 ghost use Rattle.journal_bytes.specs.Record.{behind};
-ghost use Rattle.journal_bytes.specs.Recording.{HasNoItem, told_by};
+ghost use Rattle.journal_bytes.specs.Recording.{HasNoItem, journal_so_far};
 ghost use Rattle.journal_bytes.specs.Rules.{added, after_record, behind_record, record_rules, rules_in, with_event};
 ghost use Rattle.journal_bytes.specs.Taking.{IsPut};
 ghost use Rattle.trace_bin.specs.Taking.{IsTakenTo};
@@ -34,7 +34,7 @@ const EXIT_LEN: usize = 33;
 /// Writes an event behind the others.
 fn push_event(recording: &mut Recording, event: Event) -> Result<(), LineFault>
     requires { copied_bytes recording.old.events.events + copied_by event < 2 ^ 64 }
-    ensures put { IsPut result (with_event (told_by recording.old) event) (told_by recording.new) }
+    ensures put { IsPut result (with_event (journal_so_far recording.old) event) (journal_so_far recording.new) }
     ensures header { OnOk result (recording.new.header ≡ recording.old.header) }
 {
     let Ok(()) = recording.events.reserve(1) else {
@@ -48,7 +48,7 @@ fn push_event(recording: &mut Recording, event: Event) -> Result<(), LineFault>
 #[tactic(auto, unfolding(crate::specs::Record::is_whole, crate::specs::Record::behind, crate::specs::Rules::rules_of, crate::specs::Rules::added))]
 fn take_boot_record<'a>(recording: &mut Recording, body: &'a [u8]) -> Result<&'a [u8], LineFault>
     requires { HasNoItem recording.old }
-    ensures taken { IsTakenTo result (rules_in kind.Boot [] (told_by recording.old) body.now) (added kind.Boot (told_by recording.old) body.now) (told_by recording.new) }
+    ensures taken { IsTakenTo result (rules_in kind.Boot [] (journal_so_far recording.old) body.now) (added kind.Boot (journal_so_far recording.old) body.now) (journal_so_far recording.new) }
     ensures rest { IfOk result (λ rest. rest.now ≡ behind kind.Boot body.now) }
     ensures header { OnOk result (HasNoItem recording.new) }
 {
@@ -68,7 +68,7 @@ fn take_ta_record<'a>(
     body: &'a [u8],
 ) -> Result<&'a [u8], LineFault>
     requires { HasNoItem recording.old }
-    ensures taken { IsTakenTo result (rules_in kind.Ta natives.now (told_by recording.old) body.now) (added kind.Ta (told_by recording.old) body.now) (told_by recording.new) }
+    ensures taken { IsTakenTo result (rules_in kind.Ta natives.now (journal_so_far recording.old) body.now) (added kind.Ta (journal_so_far recording.old) body.now) (journal_so_far recording.new) }
     ensures rest { IfOk result (λ rest. rest.now ≡ behind kind.Ta body.now) }
     ensures header { OnOk result (HasNoItem recording.new) }
 {
@@ -92,7 +92,7 @@ fn take_ta_record<'a>(
 #[tactic(auto, unfolding(crate::specs::Record::is_whole, crate::specs::Record::behind, crate::specs::Rules::rules_of, crate::specs::Rules::added))]
 fn take_key_record<'a>(recording: &mut Recording, body: &'a [u8]) -> Result<&'a [u8], LineFault>
     requires { HasNoItem recording.old }
-    ensures taken { IsTakenTo result (rules_in kind.Key [] (told_by recording.old) body.now) (added kind.Key (told_by recording.old) body.now) (told_by recording.new) }
+    ensures taken { IsTakenTo result (rules_in kind.Key [] (journal_so_far recording.old) body.now) (added kind.Key (journal_so_far recording.old) body.now) (journal_so_far recording.new) }
     ensures rest { IfOk result (λ rest. rest.now ≡ behind kind.Key body.now) }
     ensures header { OnOk result (HasNoItem recording.new) }
 {
@@ -115,7 +115,7 @@ fn take_entry<'a>(
 ) -> Result<&'a [u8], LineFault>
     requires header { HasNoItem recording.old }
     requires few { copied_bytes recording.old.events.events + length body.now ≤ 2 ^ 28 }
-    ensures taken { IsTakenTo result (rules_in kind.Entry [] (told_by recording.old) body.now) (added kind.Entry (told_by recording.old) body.now) (told_by recording.new) }
+    ensures taken { IsTakenTo result (rules_in kind.Entry [] (journal_so_far recording.old) body.now) (added kind.Entry (journal_so_far recording.old) body.now) (journal_so_far recording.new) }
     ensures rest { IfOk result (λ rest. rest.now ≡ behind kind.Entry body.now) }
     ensures header { OnOk result (HasNoItem recording.new) }
 {
@@ -159,7 +159,7 @@ fn take_entry<'a>(
 fn take_exit<'a>(recording: &mut Recording, body: &'a [u8]) -> Result<&'a [u8], LineFault>
     requires header { HasNoItem recording.old }
     requires few { copied_bytes recording.old.events.events + length body.now ≤ 2 ^ 28 }
-    ensures taken { IsTakenTo result (rules_in kind.Exit [] (told_by recording.old) body.now) (added kind.Exit (told_by recording.old) body.now) (told_by recording.new) }
+    ensures taken { IsTakenTo result (rules_in kind.Exit [] (journal_so_far recording.old) body.now) (added kind.Exit (journal_so_far recording.old) body.now) (journal_so_far recording.new) }
     ensures rest { IfOk result (λ rest. rest.now ≡ behind kind.Exit body.now) }
     ensures header { OnOk result (HasNoItem recording.new) }
 {
@@ -189,7 +189,7 @@ fn take_body<'a>(
 ) -> Result<&'a [u8], LineFault>
     requires header { HasNoItem recording.old }
     requires few { copied_bytes recording.old.events.events + length body.now ≤ 2 ^ 28 }
-    ensures taken { IsTakenTo result (rules_in kind natives.now (told_by recording.old) body.now) (added kind (told_by recording.old) body.now) (told_by recording.new) }
+    ensures taken { IsTakenTo result (rules_in kind natives.now (journal_so_far recording.old) body.now) (added kind (journal_so_far recording.old) body.now) (journal_so_far recording.new) }
     ensures rest { IfOk result (λ rest. rest.now ≡ behind kind body.now) }
     ensures header { OnOk result (HasNoItem recording.new) }
 {
@@ -213,7 +213,7 @@ pub fn take_record<'a>(
     requires some { 0 < length bytes.now }
     requires header { HasNoItem recording.old }
     requires few { copied_bytes recording.old.events.events + length bytes.now ≤ 2 ^ 28 }
-    ensures taken { IsTakenTo result (record_rules natives.now (told_by recording.old) bytes.now) (after_record (told_by recording.old) bytes.now) (told_by recording.new) }
+    ensures taken { IsTakenTo result (record_rules natives.now (journal_so_far recording.old) bytes.now) (after_record (journal_so_far recording.old) bytes.now) (journal_so_far recording.new) }
     ensures rest { IfOk result (λ rest. rest.now ≡ behind_record bytes.now) }
     ensures header { OnOk result (HasNoItem recording.new) }
 {

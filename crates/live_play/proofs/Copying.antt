@@ -12,7 +12,7 @@ use Rattle.line_port.specs.History.{Input}
 use Rattle.line_port.specs.History as heard
 use Rattle.live_text.specs.Rules.{LiveFront}
 use Rattle.notify_play.specs.NotifyPlay.{Drivers, NotifyPlay, after_item, after_steps}
-use Rattle.notify_text.specs.Rules.{NotifyFront, after_line, has_no_signal, told_in}
+use Rattle.notify_text.specs.Rules.{NotifyFront, after_line, has_no_signal, notify_trace_in}
 use Rattle.notify_text.specs.Steps.{Signals, Step, Takes, steps_of}
 use Rattle.notify_text.specs.declared.notify_trace.Signal.{Signal}
 use Rattle.play_model.specs.Line.{Line, Mem, Ret, text_of_line}
@@ -28,7 +28,7 @@ use Rattle.live_play.specs.Copies.{CopiesAreRam, Wrote, copy_behind, copy_betwee
 use Rattle.live_play.specs.Panicking.{item_between, panic_between, panic_line}
 use Rattle.live_play.specs.Returns.{returns_in}
 use Rattle.live_play.specs.Showing.{Position, cpu_out_by, first_position, history_fault, history_turned, lane_at, lanes_at, line_of, lines_after_other, platform_at, position_after, position_behind, shown_to, turns_history, watched_answer}
-use Rattle.live_play.specs.ShowingLaws.{is_plain, told_out}
+use Rattle.live_play.specs.ShowingLaws.{is_plain, answer_of_exit}
 use Rattle.live_play.specs.State.{text_if}
 use Rattle.live_play.proofs.Asked.{is_other, other_shown}
 use Rattle.live_play.proofs.Changing.{changes_tell_all}
@@ -243,8 +243,8 @@ effect_copied on before after stage still whole (Heads was now stays there) =
 effect_copied on before after stage still whole (AddsItem i there is) =
     let boot = some_of before.trace.boot there in
     let now : after.trace.boot ≡ Some boot.0 = ap (λ (f : NotifyFront). f.trace.boot) is ∙ boot.1 in
-    let steps : steps_of (told_in after) ≡ steps_of (told_in before) ++ Takes i ∷ [] =
-    ap (λ (f : NotifyFront). steps_of (told_in f)) is ∙ item_steps before i stage.orderly in
+    let steps : steps_of (notify_trace_in after) ≡ steps_of (notify_trace_in before) ++ Takes i ∷ [] =
+    ap (λ (f : NotifyFront). steps_of (notify_trace_in f)) is ∙ item_steps before i stage.orderly in
     stepped_item on boot.0 i before after
     (ap is_header is ∙ no_header before.trace.items i (has_no_signal before.signals))
     (ap (item_between before) is ∙ added_item before.trace.items i)
@@ -253,8 +253,8 @@ effect_copied on before after stage still whole (AddsItem i there is) =
 effect_copied on before after stage still whole (AddsSignal value there is) =
     let boot = some_of before.trace.boot there in
     let now : after.trace.boot ≡ Some boot.0 = ap (λ (f : NotifyFront). f.trace.boot) is ∙ boot.1 in
-    let steps : steps_of (told_in after) ≡ steps_of (told_in before) ++ Signals value ∷ [] =
-    ap (λ (f : NotifyFront). steps_of (told_in f)) is ∙ signal_steps before value in
+    let steps : steps_of (notify_trace_in after) ≡ steps_of (notify_trace_in before) ++ Signals value ∷ [] =
+    ap (λ (f : NotifyFront). steps_of (notify_trace_in f)) is ∙ signal_steps before value in
     stepped_signal on boot.0 value before after
     (ap is_header is ∙ signalled (has_no_item before.trace.items) before.signals (record { at = length before.trace.items; value = value }))
     (ap (item_between before) is ∙ added_none before.trace.items)
@@ -418,7 +418,7 @@ whole_of on lines None there played = inl there
 whole_of on lines (Some boot) there played = inr played.1
 
 watched_text : (on : Platform) (here : Position) (input : Input) (cpu : ℕ) (regs : List ℕ) → is_plain input ≡ true
-    → here.is_watching ≡ true → answer (platform_at on here.lines) here.lines.told input ≡ told_out cpu regs
+    → here.is_watching ≡ true → answer (platform_at on here.lines) here.lines.told input ≡ answer_of_exit cpu regs
     → shown_to on here input
     ≡ text_of_line (Ret cpu regs)
     ++ text_if panic_line (panic_between (platform_at on here.lines) here.lines.told (after_heard (platform_at on here.lines) here.lines.told input))

@@ -11,7 +11,7 @@ use Rattle.live_text.specs.Rules.{LiveFront, with_told, without_history}
 use Rattle.live_text.specs.Scene.{scene_of}
 use Rattle.live_text.specs.declared.question.QuestionKind.{QuestionKind}
 use Rattle.notify_play.specs.NotifyPlay.{NotifyPlay}
-use Rattle.notify_text.specs.Rules.{NotifyFront, after_line, no_lines, told_in}
+use Rattle.notify_text.specs.Rules.{NotifyFront, after_line, no_lines, notify_trace_in}
 use Rattle.notify_text.specs.Steps.{Signals, Step, Takes, steps_of}
 use Rattle.ta_isa.specs.declared.boot.Boot.{Boot}
 use Rattle.text_lines.specs.Words.{words_of}
@@ -19,7 +19,7 @@ use Rattle.trace_text.specs.Limits.{first_broken}
 use Rattle.trace_text.specs.declared.fault.BadKind.{BadKind}
 use Rattle.live_play.specs.Answer.{Answer, Bad, Done, Ending, Platform, after_heard, answer, copied_at, fault_at, is_done, play_at, refused_at, text_of_answer, text_of_ending, uuids_in, with_heard, without_lines}
 use Rattle.live_play.specs.Conversation.{after_all}
-use Rattle.live_play.specs.Showing.{Position, history_fault, kind_asked_by, line_of, platform_at, position_after, shown_to, told_at, turns_history, watched_answer, watching_after}
+use Rattle.live_play.specs.Showing.{Position, history_fault, kind_asked_by, line_of, platform_at, position_after, shown_to, answer_at, turns_history, watched_answer, watching_after}
 use Rattle.live_play.specs.ShowingLaws.{RefusedLinesChangeNothing, is_plain}
 use Rattle.live_play.proofs.Asked.{after_question, is_other, lines_by, other_after, other_shown, shown_by, unasked_by}
 use Rattle.live_play.proofs.Effects.{AddsItem, AddsSignal, Effect, Heads, Stays, effect}
@@ -41,7 +41,7 @@ question_refused on here input kind fault asks broken =
     let asked = question_of kind (words_of (line_of input)) in (
       shown_by on here input (Some kind) asks
           ∙ ap (λ (o : Option BadKind). option_map_or (λ fault. text_of_ending (Bad fault)) o
-          (told_at (platform_at on here.lines) here.lines.told asked ++ text_of_ending Done)) broken,
+          (answer_at (platform_at on here.lines) here.lines.told asked ++ text_of_ending Done)) broken,
       after_question on here input (Some kind) asks
           ∙ ap (λ (o : Option BadKind). option_map_or (λ fault. here) o
           (record here { is_watching = watching_after asked here.is_watching })) broken,
@@ -103,7 +103,7 @@ step_much on boot step before after more there e going refused = by (play_at on 
         let s = stepped on boot step before after next e going is in
         let reads = step_reads (booted boot on.natives) on.drivers step s.told next s.came in
         let much = reads.much more (sym (ap refused_by s.was) ∙ going) (sym (ap refused_by is) ∙ refused) in
-        let limit = steps_limit (booted boot on.natives) on.drivers (steps_of (told_in before)) (start on boot before) s.told
+        let limit = steps_limit (booted boot on.natives) on.drivers (steps_of (notify_trace_in before)) (start on boot before) s.told
         (sym (with_boot on boot before there) ∙ s.was) in
         let copied = ap copied_by s.was in
         omega (arith, much, limit, copied)
@@ -119,16 +119,16 @@ much_by on before after more stage refused (Heads was now stays there) =
 much_by on before after more stage refused (AddsItem i there is) =
     let boot = some_of before.trace.boot there in
     let now : after.trace.boot ≡ Some boot.0 = ap (λ (f : NotifyFront). f.trace.boot) is ∙ boot.1 in
-    let steps : steps_of (told_in after) ≡ steps_of (told_in before) ++ Takes i ∷ [] =
-    ap (λ (f : NotifyFront). steps_of (told_in f)) is ∙ item_steps before i stage.orderly in
+    let steps : steps_of (notify_trace_in after) ≡ steps_of (notify_trace_in before) ++ Takes i ∷ [] =
+    ap (λ (f : NotifyFront). steps_of (notify_trace_in f)) is ∙ item_steps before i stage.orderly in
     step_much on boot.0 (Takes i) before after more boot.1
     (more-played on boot.0 before after (Takes i) boot.1 now (ap (λ (f : NotifyFront). f.trace.fills) is) steps)
     stage.going refused
 much_by on before after more stage refused (AddsSignal value there is) =
     let boot = some_of before.trace.boot there in
     let now : after.trace.boot ≡ Some boot.0 = ap (λ (f : NotifyFront). f.trace.boot) is ∙ boot.1 in
-    let steps : steps_of (told_in after) ≡ steps_of (told_in before) ++ Signals value ∷ [] =
-    ap (λ (f : NotifyFront). steps_of (told_in f)) is ∙ signal_steps before value in
+    let steps : steps_of (notify_trace_in after) ≡ steps_of (notify_trace_in before) ++ Signals value ∷ [] =
+    ap (λ (f : NotifyFront). steps_of (notify_trace_in f)) is ∙ signal_steps before value in
     step_much on boot.0 (Signals value) before after more boot.1
     (more-played on boot.0 before after (Signals value) boot.1 now (ap (λ (f : NotifyFront). f.trace.fills) is) steps)
     stage.going refused

@@ -11,7 +11,7 @@ use Rattle.line_port.specs.History as heard
 use Rattle.notify_play.specs.NotifyPlay.{NotifyPlay, after_step, after_steps, first_notify_play, notify_played_within, unless_refused}
 use Rattle.notify_play.proofs.Following.{steps_are_played}
 use Rattle.notify_play.proofs.Ordered.{steps_hold_in_order}
-use Rattle.notify_text.specs.Rules.{NotifyFront, after_line, no_lines, told_in}
+use Rattle.notify_text.specs.Rules.{NotifyFront, after_line, no_lines, notify_trace_in}
 use Rattle.notify_text.specs.Steps.{Signals, Step, Takes, steps_from, steps_of}
 use Rattle.notify_text.specs.declared.notify_trace.Signal.{Signal}
 use Rattle.play_model.specs.Line.{Line}
@@ -38,7 +38,7 @@ start on boot lines =
     (first_play_within on.most_bytes on.ram (booted boot on.natives) lines.trace.fills)
 
 abbrev pub play_of : Platform → Boot → NotifyFront → Option NotifyPlay
-play_of on boot lines = notify_played_within on.most_bytes on.ram on.natives on.drivers boot (told_in lines)
+play_of on boot lines = notify_played_within on.most_bytes on.ram on.natives on.drivers boot (notify_trace_in lines)
 
 -- with this boot
 pub with_boot : (on : Platform) (boot : Boot) (lines : NotifyFront) → lines.trace.boot ≡ Some boot
@@ -51,16 +51,16 @@ without_boot on lines none = ap (λ (o : Option Boot). option_and_then (λ (b : 
 -- a step more
 pub more-played : (on : Platform) (boot : Boot) (before after : NotifyFront) (last : Step) → before.trace.boot ≡ Some boot
     → after.trace.boot ≡ Some boot → after.trace.fills ≡ before.trace.fills
-    → steps_of (told_in after) ≡ steps_of (told_in before) ++ last ∷ []
+    → steps_of (notify_trace_in after) ≡ steps_of (notify_trace_in before) ++ last ∷ []
     → play_at on after
     ≡ option_and_then (unless_refused (after_step (booted boot on.natives) on.drivers last)) (play_at on before)
 more-played on boot before after last was is fills steps =
     let kernel : Booted = booted boot on.natives in
     with_boot on boot after is
     ∙ ap (λ (s : List Step). after_steps kernel on.drivers s (start on boot after)) steps
-    ∙ ap (λ fs. after_steps kernel on.drivers (steps_of (told_in before) ++ last ∷ [])
+    ∙ ap (λ fs. after_steps kernel on.drivers (steps_of (notify_trace_in before) ++ last ∷ [])
     (first_notify_play kernel (first_play_within on.most_bytes on.ram kernel fs))) fills
-    ∙ steps-one kernel on.drivers (steps_of (told_in before)) last (start on boot before)
+    ∙ steps-one kernel on.drivers (steps_of (notify_trace_in before)) last (start on boot before)
     ∙ ap (option_and_then (unless_refused (after_step kernel on.drivers last))) (sym (with_boot on boot before was))
 
 -- ---- what a play has printed
@@ -81,7 +81,7 @@ pub record IsQuiet (on : Platform) (lines : NotifyFront) : Type 0 where
   pub going : refused_at on lines ≡ None
   pub whole : IsWhole on lines
 
-pub no_steps : (lines : NotifyFront) → IsHeader lines → steps_of (told_in lines) ≡ []
+pub no_steps : (lines : NotifyFront) → IsHeader lines → steps_of (notify_trace_in lines) ≡ []
 no_steps lines header =
     ap (λ (items : List Item). steps_from 0 items lines.signals) header.items
     ∙ ap (λ (signals : List Signal). steps_from 0 [] signals) header.signals
@@ -132,7 +132,7 @@ whole_there on lines boot there (inl none) = absurd (let no : None ≡ Some boot
 whole_there on lines boot there (inr some) = some
 
 pub item_steps : (before : NotifyFront) (i : Item) → AreOrderly before
-    → steps_from 0 (before.trace.items ++ i ∷ []) before.signals ≡ steps_of (told_in before) ++ Takes i ∷ []
+    → steps_from 0 (before.trace.items ++ i ∷ []) before.signals ≡ steps_of (notify_trace_in before) ++ Takes i ∷ []
 item_steps before i orderly =
     steps-item 0 before.trace.items i before.signals
     (within-more (length before.trace.items) (0 + length before.trace.items) before.signals (omega arith) orderly.within)
@@ -142,7 +142,7 @@ signal_at value at = record { at = at; value = value }
 
 pub signal_steps : (before : NotifyFront) (value : ℕ)
     → steps_from 0 before.trace.items (before.signals ++ record { at = length before.trace.items; value = value } ∷ [])
-    ≡ steps_of (told_in before) ++ Signals value ∷ []
+    ≡ steps_of (notify_trace_in before) ++ Signals value ∷ []
 unfolding signal_at
 signal_steps before value =
     let same : length before.trace.items ≡ 0 + length before.trace.items = omega arith in
@@ -165,16 +165,16 @@ lines_grown on before after orderly (Heads was now stays there) whole =
 lines_grown on before after orderly (AddsItem i there is) whole =
     let boot = some_of before.trace.boot there in
     let now : after.trace.boot ≡ Some boot.0 = ap (λ (f : NotifyFront). f.trace.boot) is ∙ boot.1 in
-    let steps : steps_of (told_in after) ≡ steps_of (told_in before) ++ Takes i ∷ [] =
-    ap (λ (f : NotifyFront). steps_of (told_in f)) is ∙ item_steps before i orderly in
+    let steps : steps_of (notify_trace_in after) ≡ steps_of (notify_trace_in before) ++ Takes i ∷ [] =
+    ap (λ (f : NotifyFront). steps_of (notify_trace_in f)) is ∙ item_steps before i orderly in
     step-grown on boot.0 before after (Takes i)
     (more-played on boot.0 before after (Takes i) boot.1 now (ap (λ (f : NotifyFront). f.trace.fills) is) steps)
     (whole_there on after boot.0 now whole)
 lines_grown on before after orderly (AddsSignal value there is) whole =
     let boot = some_of before.trace.boot there in
     let now : after.trace.boot ≡ Some boot.0 = ap (λ (f : NotifyFront). f.trace.boot) is ∙ boot.1 in
-    let steps : steps_of (told_in after) ≡ steps_of (told_in before) ++ Signals value ∷ [] =
-    ap (λ (f : NotifyFront). steps_of (told_in f)) is ∙ signal_steps before value in
+    let steps : steps_of (notify_trace_in after) ≡ steps_of (notify_trace_in before) ++ Signals value ∷ [] =
+    ap (λ (f : NotifyFront). steps_of (notify_trace_in f)) is ∙ signal_steps before value in
     step-grown on boot.0 before after (Signals value)
     (more-played on boot.0 before after (Signals value) boot.1 now (ap (λ (f : NotifyFront). f.trace.fills) is) steps)
     (whole_there on after boot.0 now whole)
@@ -278,7 +278,7 @@ talked on before (input ∷ inputs) stage =
 returned_at : (on : Platform) (boot : Boot) (lines : NotifyFront) (told : NotifyPlay) → lines.trace.boot ≡ Some boot
     → play_at on lines ≡ Some told → AreReturned on.drivers told
 returned_at on boot lines told there e =
-    steps_returned (booted boot on.natives) on.drivers (steps_of (told_in lines)) (start on boot lines) told
+    steps_returned (booted boot on.natives) on.drivers (steps_of (notify_trace_in lines)) (start on boot lines) told
     (sym (with_boot on boot lines there) ∙ e) tt
 
 pub turns_are_told : TurnsAreTold
@@ -289,12 +289,12 @@ turns_are_told on inputs boot told there boots e =
     let printed : printed_in (answers on no_lines inputs) ≡ told.play.lines = sym grown.1 ∙ ap printed_by e in
     let P : List Line → Type 0 = λ lines. AllZip (IsReturnOf on.drivers) (exits_in told.play.history) (returns_in lines) in
     record {
-      holds = steps_are_played on.most_bytes on.ram on.natives on.drivers boot last.trace.fills (steps_of (told_in last)) told boots
+      holds = steps_are_played on.most_bytes on.ram on.natives on.drivers boot last.trace.fills (steps_of (notify_trace_in last)) told boots
           (sym (with_boot on boot last there) ∙ e);
-      in_order = steps_hold_in_order on.most_bytes on.ram on.natives on.drivers boot last.trace.fills (steps_of (told_in last)) told boots
+      in_order = steps_hold_in_order on.most_bytes on.ram on.natives on.drivers boot last.trace.fills (steps_of (notify_trace_in last)) told boots
           (sym (with_boot on boot last there) ∙ e);
       going = sym (ap refused_by e) ∙ all.stage.going;
       printed = printed;
       returns = subst P (sym printed) (returned_at on boot last told there e);
-      unasked = unasked_play on.most_bytes on.ram on.natives on.drivers boot (told_in last) told boots (sym (with_boot on boot last there) ∙ e);
+      unasked = unasked_play on.most_bytes on.ram on.natives on.drivers boot (notify_trace_in last) told boots (sym (with_boot on boot last there) ∙ e);
     }

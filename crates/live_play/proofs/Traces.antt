@@ -12,7 +12,7 @@ use Rattle.line_port.specs.History as heard
 use Rattle.notify_play.specs.NotifyPlay.{Drivers}
 use Rattle.notify_play.specs.Text.{notify_text_by, notify_text_of, notify_text_of_play}
 use Rattle.notify_text.specs.Grammar.{Leads, is_no_signal}
-use Rattle.notify_text.specs.Rules.{NotifyFront, after_line, is_signal, line_rules, no_lines, told_in}
+use Rattle.notify_text.specs.Rules.{NotifyFront, after_line, is_signal, line_rules, no_lines, notify_trace_in}
 use Rattle.notify_text.proofs.Lines.{after-same, after-signal, after-skipped, kept-of-trace}
 use Rattle.play_model.specs.Line.{Line, text_of_line}
 use Rattle.play_model.specs.Text.{text_by, text_of, text_of_play}
@@ -121,7 +121,7 @@ some_text one other e = cc
 -- what was said is the text of the play
 said_is : (natives : List Native) (drivers : Drivers) (inputs : List Input) (text : List ℕ) (boot : Option Boot)
     → (lines_behind natives drivers inputs).trace.boot ≡ boot
-    → notify_text_of natives drivers (told_in (lines_behind natives drivers inputs)) ≡ Some text
+    → notify_text_of natives drivers (notify_trace_in (lines_behind natives drivers inputs)) ≡ Some text
     → text_said natives drivers inputs ≡ text
 said_is natives drivers inputs text None there e =
     let on : Platform = platform natives drivers in
@@ -129,13 +129,13 @@ said_is natives drivers inputs text None there e =
     let grown = (talked on no_lines inputs (stage-first on)).grown (inl there) in
     let none = ap printed_by (without_boot on last there) in
     let written : Some [] ≡ Some text =
-    sym (ap (λ (b : Option Boot). notify_text_by natives drivers (told_in last) b) there) ∙ e in
+    sym (ap (λ (b : Option Boot). notify_text_by natives drivers (notify_trace_in last) b) there) ∙ e in
     ap (flat_map text_of_line) (sym grown.1 ∙ none) ∙ some_text [] text written
 said_is natives drivers inputs text (Some boot) there e =
     let on : Platform = platform natives drivers in
     let last : NotifyFront = lines_behind natives drivers inputs in
     let written : option_map notify_text_of_play (play_of on boot last) ≡ Some text =
-    sym (ap (λ (b : Option Boot). notify_text_by natives drivers (told_in last) b) there) ∙ e in
+    sym (ap (λ (b : Option Boot). notify_text_by natives drivers (notify_trace_in last) b) there) ∙ e in
     let play = option_map_some notify_text_of_play (play_of on boot last) text written in
     let played_there = with_boot on boot last there ∙ play.1 in
     let grown = (talked on no_lines inputs (stage-first on)).grown (inr (ap is_some played_there)) in

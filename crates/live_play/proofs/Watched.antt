@@ -9,7 +9,7 @@ use Rattle.kernel_model.proofs.Parts.{some_of}
 use Rattle.line_port.specs.History.{Input}
 use Rattle.line_port.specs.History as heard
 use Rattle.notify_play.specs.NotifyPlay.{NotifyPlay, after_step}
-use Rattle.notify_text.specs.Rules.{NotifyFront, after_line, no_lines, told_in}
+use Rattle.notify_text.specs.Rules.{NotifyFront, after_line, no_lines, notify_trace_in}
 use Rattle.notify_text.specs.Steps.{Signals, Step, Takes, steps_of}
 use Rattle.play_model.specs.Line.{Line, Mem, Ret, text_of_line}
 use Rattle.ta_isa.specs.declared.boot.Boot.{Boot}
@@ -19,7 +19,7 @@ use Rattle.live_play.specs.Answer.{Answer, Bad, Done, Full, Platform, TooLong, a
 use Rattle.live_play.specs.Conversation.{after_all}
 use Rattle.live_play.specs.Returns.{returns_in}
 use Rattle.live_play.specs.Showing.{lane_at, text_behind, watched_answer, watched_line}
-use Rattle.live_play.specs.ShowingLaws.{ExitsAreWatched, IsWatched, OthersStay, told_out}
+use Rattle.live_play.specs.ShowingLaws.{ExitsAreWatched, IsWatched, OthersStay, answer_of_exit}
 use Rattle.live_play.proofs.Changing.{changes_tell_all}
 use Rattle.live_play.proofs.Effects.{AddsItem, AddsSignal, Effect, Heads, Stays, effect}
 use Rattle.live_play.proofs.Outgoing.{GoesOut, cut_front, printed_more, step-goes, step-stays, step_on, step_out, stepped}
@@ -48,7 +48,7 @@ watched-lines on before after lines cpu regs is =
 -- ---- the processor that goes out
 
 exit_watched : (on : Platform) (before : NotifyFront) (input : Input) (cpu : ℕ) (regs : List ℕ)
-    → answer on before input ≡ told_out cpu regs → IsWatched on before input cpu regs
+    → answer on before input ≡ answer_of_exit cpu regs → IsWatched on before input cpu regs
 exit_watched on before input cpu regs is =
     let after : NotifyFront = after_heard on before input in
     ap (watched_answer on before after) is
@@ -125,22 +125,22 @@ ram_by on before after cpu regs stage still printed (Heads was now stays there) 
 ram_by on before after cpu regs stage still printed (AddsItem i there is) =
     let boot = some_of before.trace.boot there in
     let now : after.trace.boot ≡ Some boot.0 = ap (λ (f : NotifyFront). f.trace.boot) is ∙ boot.1 in
-    let steps : steps_of (told_in after) ≡ steps_of (told_in before) ++ Takes i ∷ [] =
-    ap (λ (f : NotifyFront). steps_of (told_in f)) is ∙ item_steps before i stage.orderly in
+    let steps : steps_of (notify_trace_in after) ≡ steps_of (notify_trace_in before) ++ Takes i ∷ [] =
+    ap (λ (f : NotifyFront). steps_of (notify_trace_in f)) is ∙ item_steps before i stage.orderly in
     ram_step on boot.0 (Takes i) before after cpu regs
     (more-played on boot.0 before after (Takes i) boot.1 now (ap (λ (f : NotifyFront). f.trace.fills) is) steps)
     stage.going still printed
 ram_by on before after cpu regs stage still printed (AddsSignal value there is) =
     let boot = some_of before.trace.boot there in
     let now : after.trace.boot ≡ Some boot.0 = ap (λ (f : NotifyFront). f.trace.boot) is ∙ boot.1 in
-    let steps : steps_of (told_in after) ≡ steps_of (told_in before) ++ Signals value ∷ [] =
-    ap (λ (f : NotifyFront). steps_of (told_in f)) is ∙ signal_steps before value in
+    let steps : steps_of (notify_trace_in after) ≡ steps_of (notify_trace_in before) ++ Signals value ∷ [] =
+    ap (λ (f : NotifyFront). steps_of (notify_trace_in f)) is ∙ signal_steps before value in
     ram_step on boot.0 (Signals value) before after cpu regs
     (more-played on boot.0 before after (Signals value) boot.1 now (ap (λ (f : NotifyFront). f.trace.fills) is) steps)
     stage.going still printed
 
 ram_between : (on : Platform) (before after : NotifyFront) (cpu : ℕ) (regs : List ℕ) → IsStage on before → Effect before after
-    → (refused : Option ℕ) → refused_at on after ≡ refused → answer_unless on before after refused ≡ told_out cpu regs
+    → (refused : Option ℕ) → refused_at on after ≡ refused → answer_unless on before after refused ≡ answer_of_exit cpu regs
     → LeavesRam on before (counted before after (answer_unless on before after refused).ending) cpu
 ram_between on before after cpu regs stage effects (Some more) is told =
     let no : Full (copied_at on before) ≡ Done = ap (λ (a : Answer). a.ending) told in
@@ -149,7 +149,7 @@ ram_between on before after cpu regs stage effects None is told =
     ram_by on before after cpu regs stage is (ap (λ (a : Answer). a.lines) told) effects
 
 ram_line : (on : Platform) (before : NotifyFront) (line : List ℕ) (cpu : ℕ) (regs : List ℕ) → IsStage on before
-    → (fault : Option BadKind) → fault_at on before line ≡ fault → answer_by on before line fault ≡ told_out cpu regs
+    → (fault : Option BadKind) → fault_at on before line ≡ fault → answer_by on before line fault ≡ answer_of_exit cpu regs
     → LeavesRam on before (counted before (after_line before line) (answer_by on before line fault).ending) cpu
 ram_line on before line cpu regs stage (Some kind) is told =
     let no : Bad kind ≡ Done = ap (λ (a : Answer). a.ending) told in
@@ -159,7 +159,7 @@ ram_line on before line cpu regs stage None is told =
     (refused_at on (after_line before line)) refl told
 
 ram_left : (on : Platform) (before : NotifyFront) (input : Input) (cpu : ℕ) (regs : List ℕ) → IsStage on before
-    → answer on before input ≡ told_out cpu regs → LeavesRam on before (after_heard on before input) cpu
+    → answer on before input ≡ answer_of_exit cpu regs → LeavesRam on before (after_heard on before input) cpu
 ram_left on before (heard.Line line) cpu regs stage told =
     ram_line on before line cpu regs stage (fault_at on before line) refl told
 ram_left on before heard.Long cpu regs stage told =
@@ -170,7 +170,7 @@ ram_left on before heard.Cut cpu regs stage told =
     absurd cc
 
 ram_behind : (on : Platform) (inputs : List Input) (input : Input) (cpu : ℕ) (regs : List ℕ)
-    → answer on (after_all on no_lines inputs) input ≡ told_out cpu regs
+    → answer on (after_all on no_lines inputs) input ≡ answer_of_exit cpu regs
     → LeavesRam on (after_all on no_lines inputs) (after_heard on (after_all on no_lines inputs) input) cpu
 ram_behind on inputs input cpu regs is =
     ram_left on (after_all on no_lines inputs) input cpu regs (talked on no_lines inputs (stage-first on)).stage is

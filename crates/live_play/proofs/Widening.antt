@@ -8,7 +8,7 @@ use Rattle.kernel_model.specs.Application.{booted}
 use Rattle.line_port.specs.History.{Input}
 use Rattle.line_port.specs.History as heard
 use Rattle.notify_play.specs.NotifyPlay.{NotifyPlay}
-use Rattle.notify_text.specs.Rules.{NotifyFront, after_line, no_lines, told_in}
+use Rattle.notify_text.specs.Rules.{NotifyFront, after_line, no_lines, notify_trace_in}
 use Rattle.notify_text.specs.Steps.{steps_of}
 use Rattle.ta_isa.specs.declared.boot.Boot.{Boot}
 use Rattle.trace_text.specs.declared.fault.BadKind.{BadKind}
@@ -36,7 +36,7 @@ module _ (on : Platform) (most more : ℕ) (le : most ≤ more) where
   played_by lines (Some boot) there going =
       let was = with_boot small boot lines there in
       with_boot large boot lines there
-      ∙ steps_wide more (booted boot on.natives) on.drivers (steps_of (told_in lines)) (start small boot lines) le
+      ∙ steps_wide more (booted boot on.natives) on.drivers (steps_of (notify_trace_in lines)) (start small boot lines) le
       (ap refused_by (sym was) ∙ going)
       ∙ sym (ap (option_map (wide more)) was)
 

@@ -11,7 +11,7 @@ use Rattle.kernel_model.specs.Application.{IsBooted, Native, booted}
 use Rattle.line_port.specs.History.{Input}
 use Rattle.line_port.specs.History as heard
 use Rattle.notify_play.specs.NotifyPlay.{Drivers, NotifyPlay, notify_played_within}
-use Rattle.notify_text.specs.Rules.{NotifyFront, after_line, line_rules, told_in}
+use Rattle.notify_text.specs.Rules.{NotifyFront, after_line, line_rules, notify_trace_in}
 use Rattle.play_model.specs.Line.{Line, text_of_line}
 use Rattle.ta_isa.specs.declared.boot.Boot.{Boot}
 use Rattle.trace_text.specs.Fault.{kind_word}
@@ -49,7 +49,7 @@ uuids_in on = map (λ (native : Native). native.0) on.natives
 abbrev pub play_at : Platform → NotifyFront → Option NotifyPlay
 play_at on lines =
     option_and_then
-    (λ (boot : Boot). notify_played_within on.most_bytes on.ram on.natives on.drivers boot (told_in lines))
+    (λ (boot : Boot). notify_played_within on.most_bytes on.ram on.natives on.drivers boot (notify_trace_in lines))
     lines.trace.boot
 
 -- what it has printed

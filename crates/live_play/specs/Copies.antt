@@ -16,7 +16,7 @@ use Rattle.live_play.specs.Answer.{Answer, Done, Platform, after_heard, answer, 
 use Rattle.live_play.specs.Changes.{changes, text_of_changes}
 use Rattle.live_play.specs.Panicking.{item_between, panic_between, panic_line}
 use Rattle.live_play.specs.Showing.{ArePlayed, Position, first_position, lane_at, lanes_at, platform_at, position_after, position_behind, shown_to}
-use Rattle.live_play.specs.ShowingLaws.{is_plain, told_out}
+use Rattle.live_play.specs.ShowingLaws.{is_plain, answer_of_exit}
 use Rattle.live_play.specs.State.{text_if}
 
 -- ---- what is written
@@ -111,7 +111,7 @@ watches on here (input ∷ inputs) =
 pub record CopiesAreRam : Type 0 where
   -- what is said to have been written stands in the answer of an exit that is watched, behind its line and its panic
   pub said : (on : Platform) (here : Position) (input : Input) (cpu : ℕ) (regs : List ℕ) → is_plain input ≡ true →
-      here.is_watching ≡ true → answer (platform_at on here.lines) here.lines.told input ≡ told_out cpu regs →
+      here.is_watching ≡ true → answer (platform_at on here.lines) here.lines.told input ≡ answer_of_exit cpu regs →
       shown_to on here input
       ≡ text_of_line (Ret cpu regs)
       ++ text_if panic_line (panic_between (platform_at on here.lines) here.lines.told (after_heard (platform_at on here.lines) here.lines.told input))

@@ -9,7 +9,7 @@ use Rattle.notify_play.specs.NotifyPlay.{Drivers, NotifyPlay}
 use Rattle.notify_play.specs.Order.{HoldsSteps}
 use Rattle.notify_play.specs.Text.{notify_text_of}
 use Rattle.notify_text.specs.Grammar.{Leads, Spells, is_no_signal}
-use Rattle.notify_text.specs.Rules.{NotifyFront, after_line, no_lines, told_in}
+use Rattle.notify_text.specs.Rules.{NotifyFront, after_line, no_lines, notify_trace_in}
 use Rattle.notify_text.specs.Steps.{steps_of}
 use Rattle.play_model.specs.Line.{Line, text_of_line}
 use Rattle.play_model.specs.Play.{played_within}
@@ -58,7 +58,7 @@ pub record IsHeld (on : Platform) (inputs : List Input) (boot : Boot) (told : No
   pub holds : IsNotifyPlay on.most_bytes (booted boot on.natives) on.drivers told
   -- it holds the items and the signals of these lines in their order, each signal at its place; each return that it has printed is
   -- its exit as the processor was told it there
-  pub in_order : HoldsSteps on.drivers (steps_of (told_in (after_all on no_lines inputs))) told
+  pub in_order : HoldsSteps on.drivers (steps_of (notify_trace_in (after_all on no_lines inputs))) told
   -- no entry in it was refused
   pub going : told.play.refused ≡ None
   -- what it has printed is what the answers have said
@@ -101,8 +101,8 @@ pub record IsTrace (natives : List Native) (drivers : Drivers) (inputs : List In
   pub are : inputs ≡ map heard.Line lines
   pub leads : Leads (uuids_in (platform natives drivers)) no_lines lines (lines_behind natives drivers inputs)
   pub spells : end_fault (lines_behind natives drivers inputs).trace ≡ None →
-      Spells (uuids_in (platform natives drivers)) (text_of_lines lines) (told_in (lines_behind natives drivers inputs))
-  pub text : (text : List ℕ) → notify_text_of natives drivers (told_in (lines_behind natives drivers inputs)) ≡ Some text →
+      Spells (uuids_in (platform natives drivers)) (text_of_lines lines) (notify_trace_in (lines_behind natives drivers inputs))
+  pub text : (text : List ℕ) → notify_text_of natives drivers (notify_trace_in (lines_behind natives drivers inputs)) ≡ Some text →
       text_said natives drivers inputs ≡ text
 
 abbrev pub GoodConversationsAreTraces : Type 0

@@ -56,18 +56,18 @@ platform_at on lines = within on (if lines.forgets then 2 ^ 63 else on.most_byte
 -- ---- what is answered to a question
 
 -- by a core of this boot with this kernel and this history
-abbrev pub told_by : Booted → Kernel → List Happens → Question → List ℕ
-told_by boot kernel history (asks.Watch on) = []
-told_by boot kernel history asks.State = state_text boot kernel history
-told_by boot kernel history (asks.Session number) = text_if (session_line number) (get kernel.tables.sessions number)
-told_by boot kernel history (asks.Buffer cookie) =
+abbrev pub answer_of_kernel : Booted → Kernel → List Happens → Question → List ℕ
+answer_of_kernel boot kernel history (asks.Watch on) = []
+answer_of_kernel boot kernel history asks.State = state_text boot kernel history
+answer_of_kernel boot kernel history (asks.Session number) = text_if (session_line number) (get kernel.tables.sessions number)
+answer_of_kernel boot kernel history (asks.Buffer cookie) =
     text_if (λ buffer. buffer_lines kernel.tables.registered cookie) (get kernel.tables.registered.buffers cookie)
-told_by boot kernel history (asks.Events from count) = event_lines history from count
+answer_of_kernel boot kernel history (asks.Events from count) = event_lines history from count
 
 -- behind these lines, which have a play where a boot is among them
-abbrev pub told_at : Platform → NotifyFront → Question → List ℕ
-told_at on lines question =
-    text_if (λ (boot : Boot). text_if (λ (told : NotifyPlay). told_by (booted boot on.natives) told.play.kernel told.play.history question) (play_at on lines))
+abbrev pub answer_at : Platform → NotifyFront → Question → List ℕ
+answer_at on lines question =
+    text_if (λ (boot : Boot). text_if (λ (told : NotifyPlay). answer_of_kernel (booted boot on.natives) told.play.kernel told.play.history question) (play_at on lines))
     lines.trace.boot
 
 -- a line of a question of this kind breaks this rule; or it is answered
@@ -75,7 +75,7 @@ abbrev pub shown_to_question : Platform → LiveFront → QuestionKind → List 
 shown_to_question on lines kind line = option_map_or
     (λ fault. text_of_ending (Bad fault))
     (first_broken (question_rules kind (scene_of lines) line))
-    (told_at (platform_at on lines) lines.told (question_of kind (words_of line)) ++ text_of_ending Done)
+    (answer_at (platform_at on lines) lines.told (question_of kind (words_of line)) ++ text_of_ending Done)
 
 -- ---- what is said of exits that are watched
 

@@ -22,12 +22,12 @@ use Rattle.live_play.specs.Showing.{first_position, showing, within}
 use Rattle.live_play.specs.State.{buffer_lines, instance_line, instance_lines, masked_line, session_line, slot_line, state_text}
 
 -- a conversation in which lines may ask goes so
-abbrev pub Shows : List Turn → Type 0
-Shows turns = showing on first_position (inputs_of turns) ≡ events_of turns
+abbrev pub GoesSo : List Turn → Type 0
+GoesSo turns = showing on first_position (inputs_of turns) ≡ events_of turns
 
 -- and so it goes where all entries may read no byte
-abbrev pub ShowsWithoutBytes : List Turn → Type 0
-ShowsWithoutBytes turns = showing (within on 0) first_position (inputs_of turns) ≡ events_of turns
+abbrev pub GoesSoWithoutBytes : List Turn → Type 0
+GoesSoWithoutBytes turns = showing (within on 0) first_position (inputs_of turns) ≡ events_of turns
 
 -- nothing is kept, and so many events have come
 abbrev pub nothing_kept : ℕ → List (List ℕ)
@@ -91,7 +91,7 @@ zeros_call = codes "smc 0 1 32000004 0 40000000 0 0 0 0 0"
 
 pub record ShowingExamples : Type 0 where
   -- a question needs a boot before it, changes nothing, and leaves the header open
-  pub of_a_state : Shows (
+  pub of_a_state : GoesSo (
       turn (codes "state") (codes "bad place" ∷ [])
       ∷ turn (codes "watch on") ok
       ∷ turn (codes "boot 1 2 3") ok
@@ -105,7 +105,7 @@ pub record ShowingExamples : Type 0 where
       ∷ turn (codes "show 0 40000000 2") (codes "mem 0 40000000 00ff" ∷ ok)
       ∷ [])
   -- what isn't kept is answered by no line
-  pub of_events : Shows (
+  pub of_events : GoesSo (
       turn (codes "boot 1 1 1") ok
       ∷ turn (codes "events 0 1024") ok
       ∷ turn (codes "smc 0 1 bf00ff01 0 0 0 0 0 0 7")
@@ -120,7 +120,7 @@ pub record ShowingExamples : Type 0 where
       ∷ turn (codes "buffer 1a") ok
       ∷ [])
   -- an exit that is watched writes the result of its call; the next one writes the same bytes; and one more isn't watched
-  pub of_watched_exits : Shows (
+  pub of_watched_exits : GoesSo (
       turn (codes "watch on") ok
       ∷ turn (codes "boot 1 1 1") ok
       ∷ turn zeros_call (zeros_told ∷ codes "wrote 0 40000000 00000000000000000000000000000000000000000600ffff03000000000000000000000000000000000000000000000000000000000000000000000000000000" ∷ ok)
@@ -143,7 +143,7 @@ pub record ShowingExamples : Type 0 where
   -- but not behind one that isn't watched
   pub of_no_copy : watches on first_position (inputs_of (turn (codes "boot 1 1 1") ok ∷ turn zeros_call (zeros_told ∷ ok) ∷ [])) ≡ false
   -- history is turned off once, before the boot; then no events are told, and their count is as it was
-  pub of_history_off : Shows (
+  pub of_history_off : GoesSo (
       turn (codes "history on") (codes "bad item" ∷ [])
       ∷ turn (codes "history off") ok
       ∷ turn (codes "history off") (codes "bad repeat" ∷ [])
@@ -155,9 +155,9 @@ pub record ShowingExamples : Type 0 where
       ∷ turn (codes "state") (codes "slot 0 free" ∷ nothing_kept 2)
       ∷ [])
   -- an entry that reads more than entries may is refused, and where history is off none is
-  pub of_a_limit : ShowsWithoutBytes (
+  pub of_a_limit : GoesSoWithoutBytes (
       turn (codes "boot 1 1 1") ok ∷ turn zeros_call (codes "full 0" ∷ []) ∷ turn zeros_call (codes "full 0" ∷ []) ∷ [])
-  pub of_no_limit : ShowsWithoutBytes (
+  pub of_no_limit : GoesSoWithoutBytes (
       turn (codes "history off") ok ∷ turn (codes "boot 1 1 1") ok ∷ turn zeros_call (zeros_told ∷ ok) ∷ [])
   -- slots
   pub free : slot_line 0 Free ≡ codes "slot 0 free" ++ 10 ∷ []

@@ -146,8 +146,8 @@ pub record PlainConversationsAreAsBefore : Type 0 where
 -- ---- exits that are watched
 
 -- the answer of an exit: its line, and `ok`
-abbrev pub told_out : ℕ → List ℕ → Answer
-told_out cpu regs = record { lines = Ret cpu regs ∷ []; ending = Done }
+abbrev pub answer_of_exit : ℕ → List ℕ → Answer
+answer_of_exit cpu regs = record { lines = Ret cpu regs ∷ []; ending = Done }
 
 -- behind the line of an exit stands the panic in which its call has ended, if it did, and then what has changed in the processor's
 -- RAM
@@ -170,12 +170,12 @@ pub record ExitsAreWatched : Type 0 where
   pub unwatched : (on : Platform) (before after : NotifyFront) (given : Answer) → returns_in given.lines ≡ [] →
       watched_answer on before after given ≡ text_of_answer given
   pub told : (on : Platform) (before : NotifyFront) (input : Input) (cpu : ℕ) (regs : List ℕ) →
-      answer on before input ≡ told_out cpu regs → IsWatched on before input cpu regs
+      answer on before input ≡ answer_of_exit cpu regs → IsWatched on before input cpu regs
   -- behind lines that count, what has changed tells what the processor's RAM is
   pub laid_over : (on : Platform) (inputs : List Input) (input : Input) (cpu : ℕ) (regs : List ℕ) →
-      answer on (after_all on no_lines inputs) input ≡ told_out cpu regs →
+      answer on (after_all on no_lines inputs) input ≡ answer_of_exit cpu regs →
       IsLaidOver on (after_all on no_lines inputs) (after_heard on (after_all on no_lines inputs) input) cpu
   -- and the RAM of every other processor stays as it was
   pub others : (on : Platform) (inputs : List Input) (input : Input) (cpu : ℕ) (regs : List ℕ) →
-      answer on (after_all on no_lines inputs) input ≡ told_out cpu regs →
+      answer on (after_all on no_lines inputs) input ≡ answer_of_exit cpu regs →
       OthersStay on (after_all on no_lines inputs) (after_heard on (after_all on no_lines inputs) input) cpu

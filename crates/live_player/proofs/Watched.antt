@@ -23,7 +23,7 @@ use Rattle.live_play.specs.State.{text_if}
 use Rattle.live_play.proofs.Outgoing.{lines-done, none_returned, one_returned, step_on}
 use Rattle.live_play.proofs.Talking.{answer_unless, item_steps, more-played, quiet, signal_steps, start}
 use Rattle.live_play.proofs.Watched.{unwatched-lines, watched-lines}
-use Rattle.live_player.specs.Asking.{AnswersWatched, CanWatch, TakesWatched, Watches, WatchesOn, cpu_going_out}
+use Rattle.live_player.specs.Watching.{AnswersWatched, CanWatch, TakesWatched, Watches, WatchesOn, cpu_going_out}
 use Rattle.live_player.specs.Panicking.{EndsIn}
 use Rattle.live_player.specs.Standing.{HasCome, IsOpen, IsPlayedBehind, IsWithin, StageAt, StandsAt}
 use Rattle.live_player.specs.Taking.{Answers, IsNext, Judges, TakesOn, answer_behind, counted}

@@ -1,5 +1,5 @@
 pub mod Header
 pub mod Standing
 pub mod Taking
-pub mod Asking
+pub mod Watching
 pub mod Panicking

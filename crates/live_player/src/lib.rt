@@ -4,7 +4,7 @@
 //! the first line behind them, and then plays each item and each signal as it comes. What a line prints is appended to the
 //! text of its answer, and where exits are watched the panics in which their calls end and what they change in RAM; and it tells
 //! what its core keeps. `specs/` has `Header`, `Standing`, where a player stands behind which lines, `Taking`, how a line is taken,
-//! `Panicking`, the panic in which the call of its exit has ended, and `Asking`, how a line is taken where exits are watched; the
+//! `Panicking`, the panic in which the call of its exit has ended, and `Watching`, how a line is taken where exits are watched; the
 //! definitions of an answer are those of `live_play`.
 //!
 //! It touches the RAM of its own processors, and no port and no thread.

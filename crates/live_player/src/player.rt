@@ -1,7 +1,7 @@
 ghost use Rattle.std.specs.Prelude.{◌≡◌, ◌++◌, List, IfOk, None, OnOk, is_some, not, true};
 ghost use Rattle.kernel_model.specs.Application.{Native};
 ghost use Rattle.live_play.specs.Answer.{Platform, platform};
-ghost use Rattle.live_play.specs.Showing.{platform_at, told_at};
+ghost use Rattle.live_play.specs.Showing.{platform_at, answer_at};
 ghost use Rattle.live_player.specs.Panicking.{EndsIn, taken_as};
 ghost use Rattle.live_player.specs.Standing.{HasCome, StandsAt};
 ghost use Rattle.live_player.specs.Taking.{IsNext, Judges, TakesOn};
@@ -137,7 +137,7 @@ impl LivePlayer {
             × (is_some lines.told.trace.boot ≡ true) × CanTell (not lines.forgets) question.now }
         ensures { (lines : LiveFront) → StandsAt (platform (entries natives.now) (drivers natives.now)) lines self.now
             → is_some lines.told.trace.boot ≡ true → OnOk result (text.new.items ≡ text.old.items
-            ++ told_at (platform_at (platform (entries natives.now) (drivers natives.now)) lines) lines.told question.now) }
+            ++ answer_at (platform_at (platform (entries natives.now) (drivers natives.now)) lines) lines.told question.now) }
     {
         self.stage.push_told(alloc, natives, question, text)
     }

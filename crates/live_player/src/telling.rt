@@ -2,7 +2,7 @@
 
 ghost use Rattle.std.specs.Prelude.{◌≡◌, ℕ, ◌++◌, OnOk, is_some, true};
 ghost use Rattle.live_play.specs.Answer.{Platform, platform_within};
-ghost use Rattle.live_play.specs.Showing.{told_at};
+ghost use Rattle.live_play.specs.Showing.{answer_at};
 ghost use Rattle.live_player.specs.Standing.{IsPlayedBehind, IsWithin, StageAt, terms_on};
 ghost use Rattle.native_tas.specs.Table.{drivers, entries};
 ghost use Rattle.notify_text.specs.Rules.{NotifyFront};
@@ -25,7 +25,7 @@ fn push_told(
 ) -> Result<(), AllocError>
     requires { CanTell (terms_in player.now.player).keeps question.now }
     ensures { (on : Platform) (lines : NotifyFront) → IsPlayedBehind on lines player.now →
-        OnOk result (text.new.items ≡ text.old.items ++ told_at on lines question.now) }
+        OnOk result (text.new.items ≡ text.old.items ++ answer_at on lines question.now) }
 {
     shown_lines::push_told(alloc, text, player.machine().core(), question)
 }
@@ -46,7 +46,7 @@ impl Stage {
         ensures { (most : ℕ) (lines : NotifyFront) → IsWithin (platform_within most (entries natives.now) (drivers natives.now)) lines
             → StageAt (platform_within most (entries natives.now) (drivers natives.now)) lines self.now → is_some lines.trace.boot ≡ true
             → OnOk result (text.new.items ≡ text.old.items
-            ++ told_at (platform_within most (entries natives.now) (drivers natives.now)) lines question.now) }
+            ++ answer_at (platform_within most (entries natives.now) (drivers natives.now)) lines question.now) }
     {
         match self {
             Stage::Core(player) => push_told(alloc, player, question, text)?,

@@ -4,7 +4,7 @@ ghost use Rattle.std.specs.Prelude.{◌≡◌, ◌++◌, IfOk, OnOk, length};
 ghost use Rattle.live_play.specs.Answer.{Platform, platform};
 ghost use Rattle.live_play.specs.Changes.{changes, text_of_changes};
 ghost use Rattle.live_play.specs.Showing.{cpu_out_by, lane_at, platform_at};
-ghost use Rattle.live_player.specs.Asking.{CanWatch, Watches, WatchesOn, cpu_going_out};
+ghost use Rattle.live_player.specs.Watching.{CanWatch, Watches, WatchesOn, cpu_going_out};
 ghost use Rattle.live_player.specs.Standing.{HasCome, IsOpen, IsPlayedBehind, StandsAt};
 ghost use Rattle.live_player.specs.Taking.{IsNext};
 ghost use Rattle.live_text.specs.Rules.{LiveFront};

@@ -7,9 +7,9 @@ use Rattle.line_port.specs.History.{Hears, Input}
 use Rattle.line_port.specs.History as history
 use Rattle.line_port.specs.declared.port.Heard.TheVariants as heard
 use Rattle.live_play.specs.Answer.{Answer, Bad, Done, Ending, Platform, TooLong, after_heard, answer, play_at, text_of_answer, text_of_ending, without_lines}
-use Rattle.live_play.specs.Showing.{Position, history_ending, lines_after, platform_at, position_after, shown_to, shown_to_other, shown_to_unasked, told_at, watched_answer, watched_line, watching_after}
+use Rattle.live_play.specs.Showing.{Position, history_ending, lines_after, platform_at, position_after, shown_to, shown_to_other, shown_to_unasked, answer_at, watched_answer, watched_line, watching_after}
 use Rattle.live_play.proofs.Asked.{after_question, shown_by, unasked_by}
-use Rattle.live_player.specs.Asking.{Watches}
+use Rattle.live_player.specs.Watching.{Watches}
 use Rattle.live_player.specs.Standing.{StandsAt}
 use Rattle.live_player.specs.Taking.{Breaks, Judges, answer_behind, ending_of}
 use Rattle.live_player.specs.declared.player.LivePlayer.{LivePlayer}
@@ -258,7 +258,7 @@ question_shown on here line question scene None told talk kind_is is judged tell
 question_shown on here line question scene (Some kind) told talk kind_is is judged tells player watching ends =
     let input : Input = history.Line line in
     let kept = rules_here here kind line scene None is judged.0 in
-    let asks_so : List ℕ = told_at (platform_at on here.lines) here.lines.told (question_of kind (words_of line)) ++ text_of_ending Done in
+    let asks_so : List ℕ = answer_at (platform_at on here.lines) here.lines.told (question_of kind (words_of line)) ++ text_of_ending Done in
     let now : Position = record here { is_watching = watching_after (question_of kind (words_of line)) here.is_watching } in
     let shown : shown_to on here input ≡ asks_so =
     shown_by on here input (Some kind) kind_is
@@ -271,7 +271,7 @@ question_shown on here line question scene (Some kind) told talk kind_is is judg
     record {
       said = ends
           ∙ ap (λ (l : List ℕ). l ++ text_of_ending Done)
-          (tells.said ∙ ap (λ (q : Question). told_at (platform_at on here.lines) here.lines.told q) judged.1)
+          (tells.said ∙ ap (λ (q : Question). answer_at (platform_at on here.lines) here.lines.told q) judged.1)
           ∙ sym shown;
       stands = subst P (sym after)
           (record {
@@ -291,7 +291,7 @@ broken_shown on here line broken scene None before talk kind_is is judged none s
 broken_shown on here line broken scene (Some kind) before talk kind_is is judged none stands player watching ends =
     let input : Input = history.Line line in
     let at = rules_here here kind line scene (Some broken) is judged in
-    let asks_so : List ℕ = told_at (platform_at on here.lines) here.lines.told (question_of kind (words_of line)) ++ text_of_ending Done in
+    let asks_so : List ℕ = answer_at (platform_at on here.lines) here.lines.told (question_of kind (words_of line)) ++ text_of_ending Done in
     let now : Position = record here { is_watching = watching_after (question_of kind (words_of line)) here.is_watching } in
     let shown : shown_to on here input ≡ text_of_ending (Bad broken) =
     shown_by on here input (Some kind) kind_is

@@ -12,7 +12,7 @@ use Rattle.live_play.specs.Conversation.{IsRest, after_all}
 use Rattle.live_play.specs.Showing.{ArePlayed, IsShownRest, Position, first_position, lines_after_other, platform_at, position_after, position_behind, showing}
 use Rattle.live_play.specs.ShowingLaws.{PlainConversationsAreAsBefore, hears_plain, is_plain}
 use Rattle.live_play.proofs.Asked.{unwatched}
-use Rattle.live_runner.specs.Talks.{AreHeld, HearsNoQuestion, Shows, Talks, platform_behind}
+use Rattle.live_runner.specs.Talks.{AreHeld, HearsNoQuestion, TalksWithQuestions, Talks, platform_behind}
 use Rattle.live_text.specs.Rules.{LiveFront, no_lines, with_told}
 use Rattle.notify_text.specs.Rules as told
 
@@ -80,7 +80,7 @@ held-alone on inputs plain law held =
 -- ---- all of it
 
 pub plain-talks : (on : Platform) (old new : Option (List Event)) (end : Finish) → PlainConversationsAreAsBefore
-    → Shows on old new end → HearsNoQuestion old new → Talks on old new end
+    → TalksWithQuestions on old new end → HearsNoQuestion old new → Talks on old new end
 plain-talks on old new end law shows unasked =
     let inputs : List Input = shows.talk.inputs in
     let rest : List Event = shows.talk.rest in

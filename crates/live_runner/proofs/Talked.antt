@@ -12,7 +12,7 @@ use Rattle.live_play.specs.Conversation.{after_all}
 use Rattle.live_play.specs.Laws.{IsHeld, TurnsAreTold}
 use Rattle.live_play.specs.Showing.{ArePlayed, IsShownRest, Position, first_position, position_after, position_behind, showing, shown_to}
 use Rattle.live_play.specs.ShowingLaws.{HistoryOffForgetsAlone, is_plain}
-use Rattle.live_runner.specs.Talks.{AreHeld, Shows, platform_behind}
+use Rattle.live_runner.specs.Talks.{AreHeld, TalksWithQuestions, platform_behind}
 use Rattle.live_runner.specs.Turns.{StandsIn, Turns}
 use Rattle.live_runner.specs.declared.talk.Talk.{Talk}
 use Rattle.notify_play.specs.NotifyPlay.{NotifyPlay}
@@ -158,7 +158,7 @@ half-held on inputs finish.Memory rest told alone ended input part e =
 pub shows-ended : (on : Platform) (start old new : Option (List Event)) (talk : Talk) (end : Finish) → TurnsAreTold
     → HistoryOffForgetsAlone → Going on start old talk
     → ((here : Position) → StandsIn on here talk → (rest : List Event) × Adds old new rest × IsShownRest on here end rest)
-    → Shows on start new end
+    → TalksWithQuestions on start new end
 shows-ended on start old new talk end told alone going ends =
     let last = ends (position_behind on first_position going.inputs) going.stands in
     record {

@@ -4,7 +4,7 @@ use Rattle.line_port.specs.History.{Event}
 use Rattle.line_port.specs.declared.finish.Finish.{Finish}
 use Rattle.live_play.specs.Answer.{Platform}
 use Rattle.live_play.specs.Conversation.{status}
-use Rattle.live_runner.specs.Talks.{HearsNoQuestion, Shows, Talks}
+use Rattle.live_runner.specs.Talks.{HearsNoQuestion, TalksWithQuestions, Talks}
 use Rattle.live_runner.specs.Turns.{IsEndOf}
 use Rattle.ports.specs.Port.{Appends, Rose}
 
@@ -27,6 +27,6 @@ pub record IsRefused (result : ℕ) (old new : Option (List ℕ)) (faults_old fa
 pub record HoldsTo (on : Platform) (old new : Option (List Event)) (ended : Option Finish) (result : ℕ) : Type 0 where
   pub finish : Finish
   pub status_is : result ≡ status finish
-  pub shows : Shows on old new finish
+  pub shows : TalksWithQuestions on old new finish
   pub talks : HearsNoQuestion old new → Talks on old new finish
   pub ends : IsEndOf finish ended

@@ -42,7 +42,7 @@ platform_behind on inputs = platform_at on (position_behind on first_position in
 
 -- the history grew by a conversation in which lines may ask. Of the lines of a trace with signals all is so behind each of its
 -- turns, and behind the last line where a part of its answer was said
-pub record Shows (on : Platform) (old new : Option (List Event)) (finish : Finish) : Type 0 where
+pub record TalksWithQuestions (on : Platform) (old new : Option (List Event)) (finish : Finish) : Type 0 where
   pub talk : IsShowing on old new finish
   pub held : (front behind : List Input) → talk.inputs ≡ front ++ behind →
       AreHeld (platform_behind on front) (filter is_plain front)

@@ -6,7 +6,7 @@ use Rattle.line_port.specs.declared.finish.Finish.{Finish}
 use Rattle.line_port.specs.declared.finish.Finish.TheVariants.{Memory}
 use Rattle.line_port.specs.declared.port.Heard.{Heard}
 use Rattle.live_play.specs.Answer.{Bad, Ending, Platform, text_of_ending}
-use Rattle.live_play.specs.Showing.{IsShownRest, Position, lines_after, platform_at, position_after, shown_to, shown_to_unasked, told_at, watching_after}
+use Rattle.live_play.specs.Showing.{IsShownRest, Position, lines_after, platform_at, position_after, shown_to, shown_to_unasked, answer_at, watching_after}
 use Rattle.live_player.specs.Standing.{StandsAt}
 use Rattle.live_player.specs.Taking.{ending_of}
 use Rattle.live_player.specs.declared.taken.Taken.{Taken}
@@ -58,7 +58,7 @@ CanBeAsked lines (asks.Events from count) = (is_some lines.told.trace.boot ≡ t
 
 -- what it asks was done, and the lines of its answer stand
 pub record Tells (on : Platform) (here : Position) (question : Question) (talk : Talk) : Type 0 where
-  pub said : talk.answer.items ≡ told_at (platform_at on here.lines) here.lines.told question
+  pub said : talk.answer.items ≡ answer_at (platform_at on here.lines) here.lines.told question
   pub stands : StandsIn on (record here { is_watching = watching_after question here.is_watching }) talk
 
 -- ---- an answer

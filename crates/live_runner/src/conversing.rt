@@ -3,7 +3,7 @@
 ghost use Rattle.std.specs.Prelude.{◌≡◌, None};
 ghost use Rattle.live_play.specs.Answer.{platform};
 ghost use Rattle.live_play.specs.Showing.{Position};
-ghost use Rattle.live_runner.specs.Talks.{HearsNoQuestion, Shows, Talks};
+ghost use Rattle.live_runner.specs.Talks.{HearsNoQuestion, TalksWithQuestions, Talks};
 ghost use Rattle.live_runner.specs.Turns.{EndsAs, IsEndOf, StandsIn, Turns};
 ghost use Rattle.native_tas.specs.Table.{drivers, entries};
 
@@ -50,7 +50,7 @@ pub fn live<P: Port>(alloc: Global, natives: &Natives, port: &mut P) -> Finish
     // ---- The history grew by a conversation from the first line on, in which lines may ask. Of the lines of a trace with signals, as of
     // the last one where its answer was said in part, all returns are those of one play, whose history is legal, with the kernel's own
     // answers, behind each turn.
-    ensures shows { Shows (platform (entries natives.now) (drivers natives.now)) (P.history port.old) (P.history port.new) result }
+    ensures shows { TalksWithQuestions (platform (entries natives.now) (drivers natives.now)) (P.history port.old) (P.history port.new) result }
 
     // ---- Where no line asks or turns history off, the history grew by a conversation from the first line on, as it does without lines that ask; and
     // behind each of its turns, as behind an answer that was said in part, all returns are those of one play, whose history is

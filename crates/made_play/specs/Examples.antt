@@ -7,13 +7,13 @@ use Rattle.sha2.specs.Sha256.{sha256}
 use Rattle.made_play.specs.Summary.{answers_in, is_limit, is_ok, is_resume, is_rpc, summary_of}
 
 -- a processor goes out with this a0
-abbrev pub told : ℕ → Event
-told a0 = Exit 0 (record { a = a0 ∷ replicate 7 0 })
+abbrev pub exits_with : ℕ → Event
+exits_with a0 = Exit 0 (record { a = a0 ∷ replicate 7 0 })
 
 -- two returns, an interrupt, an unknown function, and an entry whose a0 is none of an answer
 abbrev pub history : List Event
 history =
-    told 0 ∷ told 3 ∷ Entry 0 (record { a = replicate 8 0 }) 1 [] ∷ told 0xffff0004 ∷ told 0xffffffff ∷ told 0 ∷ []
+    exits_with 0 ∷ exits_with 3 ∷ Entry 0 (record { a = replicate 8 0 }) 1 [] ∷ exits_with 0xffff0004 ∷ exits_with 0xffffffff ∷ exits_with 0 ∷ []
 
 pub record Examples : Type 0 where
   pub ok : answers_in history is_ok ≡ 2

@@ -11,7 +11,7 @@ use Rattle.native_tas.specs.declared.driver_relation.DriverRelation.TheVariants.
 use Rattle.native_tas.specs.declared.relation.Relation.TheVariants.{Digest}
 use Rattle.notif.specs.Desk.{DeskState}
 use Rattle.notif.specs.History.{BottomHalf, DeskCall, Enable, Next, Signal, Stop}
-use Rattle.notify_text.specs.Rules.{after_line, no_lines, told_in}
+use Rattle.notify_text.specs.Rules.{after_line, no_lines, notify_trace_in}
 use Rattle.notify_text.specs.Steps.{Signals, Takes}
 use Rattle.notify_text.specs.declared.notify_trace.NotifyTrace.{NotifyTrace}
 use Rattle.ns_ram.specs.Examples.{read_of}
@@ -51,7 +51,7 @@ echo = (1, Echo) ∷ []
 
 -- the trace that these lines spell, beside a boot or without
 abbrev pub spelled_by : List (List ℕ) → NotifyTrace
-spelled_by text = told_in (fold after_line no_lines text)
+spelled_by text = notify_trace_in (fold after_line no_lines text)
 
 -- its play over so many bytes of RAM
 abbrev pub play_of : ℕ → List (List ℕ) → Option NotifyPlay
@@ -310,7 +310,7 @@ pub record Examples : Type 0 where
       ∷ codes "mem 0 40000008 0800000000000000000000000000000000000000000000000300000000000000"
       ∷ [])
   -- without a boot there is nothing to print
-  pub no_boot : notify_text_of [] [] (told_in no_lines) ≡ Some []
+  pub no_boot : notify_text_of [] [] (notify_trace_in no_lines) ≡ Some []
   -- longer scripts
   pub of_one_processor : prints 192 one_by_one ≡ lines one_by_one_output
   pub of_a_resumed_call : prints 4248 resumed ≡ lines resumed_output

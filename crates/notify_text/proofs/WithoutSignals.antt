@@ -12,7 +12,7 @@ use Rattle.trace_text.specs.Limits.{Front, first_broken, no_front, trace_in}
 use Rattle.trace_text.specs.Rules.{after_line as after_trace_line, line_rules as trace_rules}
 use Rattle.trace_text.specs.declared.fault.BadKind.{BadKind}
 use Rattle.notify_text.specs.Grammar.{AreTraces, IsFirstFault, Leads, is_no_signal, piece_fault, without_signals}
-use Rattle.notify_text.specs.Rules.{NotifyFront, after_line, is_signal, line_rules, told_in}
+use Rattle.notify_text.specs.Rules.{NotifyFront, after_line, is_signal, line_rules, notify_trace_in}
 use Rattle.notify_text.specs.declared.notify_trace.NotifyTrace.{NotifyTrace}
 use Rattle.notify_text.proofs.Lines.{after-same, rules-alone}
 
@@ -108,7 +108,7 @@ are_traces natives text plain = record {
   };
   only = λ told s.
       let leads = leads_there natives no_front s.lines s.end (in_front text s.lines [] [] plain s.text_is).0 s.spelled in
-      let alone : told_in s.end ≡ without_signals (trace_in s.end.trace) = ap told_in leads.0 in
+      let alone : notify_trace_in s.end ≡ without_signals (trace_in s.end.trace) = ap notify_trace_in leads.0 in
       let trace_is : trace_in s.end.trace ≡ told.trace = ap (λ (t : NotifyTrace). t.trace) s.value_is in (
         sym s.value_is ∙ alone ∙ ap without_signals trace_is,
         record { lines = s.lines; text_is = s.text_is; end = s.end.trace; spelled = leads.1; value_is = trace_is; no_end_fault = s.no_end_fault },

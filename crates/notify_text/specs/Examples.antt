@@ -1,7 +1,7 @@
 -- What the rules of lines say of a few small inputs, and in which order items and signals come.
 use Rattle.std.specs.Prelude.{◌≡◌, ℕ, List, [], ◌∷◌, Some, codes}
 use Rattle.notify_text.specs.Grammar.{IsFirstFault, Spells}
-use Rattle.notify_text.specs.Rules.{no_lines, told_in}
+use Rattle.notify_text.specs.Rules.{no_lines, notify_trace_in}
 use Rattle.notify_text.specs.Steps.{Signals, Takes, steps_of}
 use Rattle.notify_text.specs.declared.notify_trace.NotifyTrace.{NotifyTrace}
 use Rattle.trace_text.specs.Examples.{boot_line, enter_line, entered, key_line, text_of}
@@ -36,7 +36,7 @@ pub record Examples : Type 0 where
   pub spelled : Spells [] (text_of signalled_lines) signalled_trace
   pub steps : steps_of signalled_trace
       ≡ Takes (Enter 1 5 entered) ∷ Signals 5 ∷ Signals 63 ∷ Takes (Leave 1) ∷ Signals 1 ∷ []
-  pub nothing : Spells [] [] (told_in no_lines)
+  pub nothing : Spells [] [] (notify_trace_in no_lines)
   -- a signal before the boot, of no number, out of its range, and with two values
   pub early : IsFirstFault [] (text_of (codes "signal 5" ∷ [])) 1 bad.Place
   pub no_number : IsFirstFault [] (text_of (boot_line ∷ codes "signal 05" ∷ [])) 2 bad.Number

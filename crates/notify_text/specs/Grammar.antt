@@ -5,7 +5,7 @@ use Rattle.std.specs.List.{list_all}
 use Rattle.line_grammar.specs.Grammar.{LineGrammar}
 use Rattle.line_grammar.specs.Grammar as grammar
 use Rattle.line_grammar.specs.Meaning.{Meaning}
-use Rattle.notify_text.specs.Rules.{NotifyFront, after_line, is_signal, line_rules, no_lines, told_in}
+use Rattle.notify_text.specs.Rules.{NotifyFront, after_line, is_signal, line_rules, no_lines, notify_trace_in}
 use Rattle.notify_text.specs.declared.notify_trace.NotifyTrace.{NotifyTrace}
 use Rattle.text_lines.specs.Words.{words_of}
 use Rattle.trace_text.specs.Grammar.{IsFaultBy, pieces_of}
@@ -22,7 +22,7 @@ signal_lines natives = record {
   line_fault = λ before ended line. first_broken (line_rules natives before ended line);
   after_line = after_line;
   end_fault = λ before. end_fault before.trace;
-  value = told_in;
+  value = notify_trace_in;
 }
 
 -- lines that follow each other, each ended and with every rule kept, and lead from one trace to another

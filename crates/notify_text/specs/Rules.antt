@@ -23,8 +23,8 @@ pub record NotifyFront : Type 0 where
   pub signals : List Signal
 
 -- the trace and the signals of all of them
-abbrev pub told_in : NotifyFront → NotifyTrace
-told_in front = record { trace = trace_in front.trace; signals = front.signals }
+abbrev pub notify_trace_in : NotifyFront → NotifyTrace
+notify_trace_in front = record { trace = trace_in front.trace; signals = front.signals }
 
 -- before the first of them
 abbrev pub no_lines : NotifyFront

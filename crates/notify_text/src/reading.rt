@@ -2,7 +2,7 @@
 
 ghost use Rattle.std.specs.Prelude.{◌≡◌, ℕ, ◌<◌, ◌^◌, ◌+◌, ◌⊎◌, [], List, length, not, true, Ok, Err, IfOk, IfErr};
 ghost use Rattle.notify_text.specs.Grammar.{IsFaultOf, IsFirstFault, Spells, piece_fault};
-ghost use Rattle.notify_text.specs.Rules.{after_line, has_no_signal, line_rules, no_lines, told_in};
+ghost use Rattle.notify_text.specs.Rules.{after_line, has_no_signal, line_rules, no_lines, notify_trace_in};
 ghost use Rattle.notify_text.specs.Sound.{IsSoundTold};
 ghost use Rattle.notify_text.specs.Statement.{HasBootOfSignals, scene_of, with_statement};
 ghost use Rattle.notify_text.specs.declared.notify_trace.NotifyTrace.{NotifyTrace};
@@ -79,7 +79,7 @@ impl Reader {
 
     /// The trace with its signals, where the text ends with these bytes behind its last line feed.
     fn finish(self, rest: &[u8]) -> Result<NotifyTrace, BadKind>
-        ensures { (natives : List (List ℕ)) → IsEnded result (piece_fault natives self rest.now []) (told_in self) }
+        ensures { (natives : List (List ℕ)) → IsEnded result (piece_fault natives self rest.now []) (notify_trace_in self) }
     {
         let Reader { builder, signals } = self;
         match builder.finish_text(rest) {

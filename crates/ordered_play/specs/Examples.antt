@@ -73,15 +73,15 @@ asks_in cpu = Entry cpu (record { a = uid }) 1 []
 abbrev pub told_uid : List ℕ
 told_uid = 0x384fb3e0 ∷ 0xe7f811e3 ∷ 0xaf630002 ∷ 0xa5d5c51b ∷ replicate 4 0
 
-abbrev pub told_out : ℕ → Event
-told_out cpu = Exit cpu (record { a = told_uid })
+abbrev pub uid_exit : ℕ → Event
+uid_exit cpu = Exit cpu (record { a = told_uid })
 
 -- the second processor has asked once and is inside again, the first has asked once
 abbrev pub half_way : Share
 half_way = record {
   boot = booted two_boot [];
   cpu = 1;
-  history = asks_in 0 ∷ asks_in 1 ∷ told_out 1 ∷ told_out 0 ∷ asks_in 1 ∷ [];
+  history = asks_in 0 ∷ asks_in 1 ∷ uid_exit 1 ∷ uid_exit 0 ∷ asks_in 1 ∷ [];
 }
 
 -- the second processor asks three times, and shows a byte behind the first answer
@@ -184,10 +184,10 @@ pub record Examples : Type 0 where
   pub printed : printed_places half_standing.seat.lines ≡ 1 ∷ 2 ∷ []
   pub smcs : smcs_of half_way.history ≡ 3
   -- refused entries in the order of a history: before the event at their place, behind all events, and two at one place
-  pub refused_before : order_with (at_places (Some 1) None) 2 0 (asks_in 1 ∷ told_out 1 ∷ []) ≡ 1 ∷ 0 ∷ 1 ∷ []
-  pub refused_behind : order_with (at_places (Some 2) None) 2 0 (asks_in 1 ∷ told_out 1 ∷ []) ≡ 1 ∷ 1 ∷ 0 ∷ []
-  pub both_refused : order_with (at_places (Some 2) (Some 2)) 2 0 (asks_in 1 ∷ told_out 1 ∷ []) ≡ 1 ∷ 1 ∷ 0 ∷ 1 ∷ []
-  pub none_refused : order_with (at_places None None) 2 0 (asks_in 1 ∷ told_out 1 ∷ []) ≡ 1 ∷ 1 ∷ []
+  pub refused_before : order_with (at_places (Some 1) None) 2 0 (asks_in 1 ∷ uid_exit 1 ∷ []) ≡ 1 ∷ 0 ∷ 1 ∷ []
+  pub refused_behind : order_with (at_places (Some 2) None) 2 0 (asks_in 1 ∷ uid_exit 1 ∷ []) ≡ 1 ∷ 1 ∷ 0 ∷ []
+  pub both_refused : order_with (at_places (Some 2) (Some 2)) 2 0 (asks_in 1 ∷ uid_exit 1 ∷ []) ≡ 1 ∷ 1 ∷ 0 ∷ 1 ∷ []
+  pub none_refused : order_with (at_places None None) 2 0 (asks_in 1 ∷ uid_exit 1 ∷ []) ≡ 1 ∷ 1 ∷ []
   -- a processor without items has its first line alone
   pub without_items : prints_in two_boot [] (smc 1 1 uid ∷ []) (1 ∷ 1 ∷ [])
       ≡ lines (codes "cpu 0" ∷ codes "cpu 1" ∷ asked (codes "1") (codes "0 1") ∷ [])

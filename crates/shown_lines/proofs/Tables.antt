@@ -17,7 +17,7 @@ use Rattle.kernel_state.specs.StandsFor.{AreSlots, IsSlotAt}
 use Rattle.kernel_state.specs.declared.cancellation.Cancellation.{Cancellation}
 use Rattle.kernel_state.specs.declared.processor.Processor.{Processor}
 use Rattle.kernel_state.specs.declared.parts.Parts.{Parts}
-use Rattle.live_play.specs.Showing.{told_by}
+use Rattle.live_play.specs.Showing.{answer_of_kernel}
 use Rattle.live_play.specs.State.{count_lines, inside_lines, instance_lines, masked_lines, slot_lines, state_text, text_if, texts_below}
 use Rattle.live_text.specs.declared.question.Question.{Question}
 use Rattle.rpc_cont.specs.declared.cont.Cont.{Cont}
@@ -93,12 +93,12 @@ state_told (Err fault) boot kernel events start slots masks insides instances al
 
 -- each core has a kernel
 pub kernel_told : {E : Type 0} (result : Result (Unit {0}) E) (parts : Parts) (question : Question) (old new : List ℕ)
-    → ((so : Replays parts) → OnOk result (new ≡ old ++ told_by (booted_of_setup parts.setup) so.kernel parts.journal.events question))
+    → ((so : Replays parts) → OnOk result (new ≡ old ++ answer_of_kernel (booted_of_setup parts.setup) so.kernel parts.journal.events question))
     → ∥ Replays parts ∥₁
-    → OnOk result (option_map (λ (kernel : Kernel). old ++ told_by (booted_of_setup parts.setup) kernel parts.journal.events question)
+    → OnOk result (option_map (λ (kernel : Kernel). old ++ answer_of_kernel (booted_of_setup parts.setup) kernel parts.journal.events question)
     (kernel_after (booted_of_setup parts.setup) parts.journal.events) ≡ Some new)
 kernel_told (Ok done) parts question old new tells fact = ∥∥₁_elim fact (Prim.hlevel props) (λ (so : Replays parts).
-    ap (option_map (λ (kernel : Kernel). old ++ told_by (booted_of_setup parts.setup) kernel parts.journal.events question)) so.comes_to
+    ap (option_map (λ (kernel : Kernel). old ++ answer_of_kernel (booted_of_setup parts.setup) kernel parts.journal.events question)) so.comes_to
     ∙ ap Some (sym (tells so)))
 kernel_told (Err fault) parts question old new tells fact = tt
 

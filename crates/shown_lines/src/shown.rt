@@ -6,7 +6,7 @@ ghost use Rattle.kernel_model.specs.Kernel.{Kernel};
 ghost use Rattle.kernel_state.specs.Meaning.{booted_of, events_of, kernel_of, terms_of};
 ghost use Rattle.kernel_state.specs.Replay.{Replays};
 ghost use Rattle.kernel_state.specs.Setup.{booted_of_setup};
-ghost use Rattle.live_play.specs.Showing.{told_by};
+ghost use Rattle.live_play.specs.Showing.{answer_of_kernel};
 ghost use Rattle.live_play.specs.State.{count_lines, state_text};
 ghost use Rattle.shown_lines.specs.Asking.{CanTell};
 
@@ -58,7 +58,7 @@ fn push_parts(
 ) -> Result<(), AllocError>
     requires { CanTell parts.now.journal.keeps question.now }
     ensures { (so : Replays parts.now) → OnOk result (text.new.items
-        ≡ text.old.items ++ told_by (booted_of_setup parts.now.setup) so.kernel parts.now.journal.events question.now) }
+        ≡ text.old.items ++ answer_of_kernel (booted_of_setup parts.now.setup) so.kernel parts.now.journal.events question.now) }
 {
     match question {
         Question::Watch(_) => Ok(()),
@@ -80,7 +80,7 @@ pub fn push_told(
 ) -> Result<(), AllocError>
     requires { CanTell (terms_of core.now).keeps question.now }
     ensures { OnOk result (option_map
-        (λ (kernel : Kernel). text.old.items ++ told_by (booted_of core.now) kernel (events_of core.now) question.now)
+        (λ (kernel : Kernel). text.old.items ++ answer_of_kernel (booted_of core.now) kernel (events_of core.now) question.now)
         (kernel_of core.now) ≡ Some text.new.items) }
 {
     push_parts(alloc, text, &core.parts, question)

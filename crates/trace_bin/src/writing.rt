@@ -79,6 +79,7 @@ fn put_place(out: &mut Vec<u8>, tag: u8, cpu: u8, addr: u64) -> Result<(), NoMem
     put_long(out, addr)
 }
 
+/// Appends the record of a boot: its tag, how many processors and threads, and how many frames.
 pub fn put_boot(out: &mut Vec<u8>, boot: &Boot) -> Result<(), NoMemory>
     ensures { OnOk result (out.new.items ≡ out.old.items ++ boot_record boot.now) }
 {

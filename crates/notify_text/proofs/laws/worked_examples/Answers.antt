@@ -4,7 +4,7 @@ use Rattle.std.specs.Fmt.{digits}
 use Rattle.line_grammar.specs.Grammar.{piece_fault}
 use Rattle.line_grammar.specs.Reading.{read_pieces}
 use Rattle.notify_text.specs.Examples.{signalled_lines, signalled_trace}
-use Rattle.notify_text.specs.Rules.{after_line, line_rules, no_lines, told_in}
+use Rattle.notify_text.specs.Rules.{after_line, line_rules, no_lines, notify_trace_in}
 use Rattle.text_lines.specs.Lines.{is_skipped}
 use Rattle.trace_text.specs.Examples.{boot_line, enter_line, key_line, text_of}
 use Rattle.trace_text.specs.Forms.{is_decimal, decimal, is_hexadecimal, hexadecimal, is_last, is_register, register}
@@ -21,7 +21,7 @@ unfolding is_decimal decimal is_hexadecimal hexadecimal is_last is_register regi
 returns c = record {
   spelled = spelled_read [] (text_of signalled_lines) signalled_trace refl;
   steps = refl;
-  nothing = spelled_read [] [] (told_in no_lines) refl;
+  nothing = spelled_read [] [] (notify_trace_in no_lines) refl;
   early = first_fault_read [] (text_of (codes "signal 5" ∷ [])) 1 bad.Place refl;
   no_number = first_fault_read [] (text_of (boot_line ∷ codes "signal 05" ∷ [])) 2 bad.Number refl;
   zero = first_fault_read [] (text_of (boot_line ∷ codes "signal 0" ∷ [])) 2 bad.Range refl;

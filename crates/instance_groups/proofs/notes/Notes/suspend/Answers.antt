@@ -3,7 +3,7 @@ use Rattle.instance_groups.specs.Noted.{with_told}
 use Rattle.instance_groups.specs.declared.notes.Notes.{Notes as AnyNotes}
 use Rattle.instance_groups.proofs.NotesKept.{out_noted}
 use Rattle.isolation.specs.Noted.{AreNumbers}
-use Rattle.isolation.specs.Telling.{told_by, wake_as}
+use Rattle.isolation.specs.Telling.{reply_of_call, wake_as}
 use Rattle.isolation.specs.declared.numbering.Numbering.{Numbering as AnyNumbering}
 use Rattle.own_model.specs.Own as own
 use Rattle.instance_groups.proofs.notes.Notes.suspend.Goals as goal
@@ -19,5 +19,5 @@ returns-clause-noted c notes call are is =
     (c.with_wake.ensures notes.numbering
     (subst (λ (n : AnyNumbering). AreNumbers n notes.numbering) (sym (ap (λ (n : AnyNotes). n.numbering) stays)) are.numbering)))
     (c.in_ok-tell.ensures.log
-    ∙ ap (with_told old.log.items c.args.number) (c.in_ok-told.ensures ∙ ap (told_by c.args.cont.now) woken))
+    ∙ ap (with_told old.log.items c.args.number) (c.in_ok-told.ensures ∙ ap (reply_of_call c.args.cont.now) woken))
     (ap (λ (n : AnyNotes). n.sessions.entries) stays) (ap (λ (n : AnyNotes). n.next_session) stays)

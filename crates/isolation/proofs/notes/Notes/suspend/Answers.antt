@@ -1,6 +1,6 @@
 use Rattle.std.proofs.Common.{◌≡◌, ℕ, Option, ap, sym, subst, ◌∙◌}
 use Rattle.isolation.specs.Noted.{AreNumbers, with_told}
-use Rattle.isolation.specs.Telling.{told_by, wake_as}
+use Rattle.isolation.specs.Telling.{reply_of_call, wake_as}
 use Rattle.isolation.specs.declared.notes.Notes.{Notes as AnyNotes}
 use Rattle.isolation.specs.declared.numbering.Numbering.{Numbering as AnyNumbering}
 use Rattle.isolation.proofs.NotesKept.{out_noted}
@@ -18,5 +18,5 @@ returns-clause-noted c notes call are is =
     (c.with_wake.ensures notes.numbering
     (subst (λ (n : AnyNumbering). AreNumbers n notes.numbering) (sym (ap (λ (n : AnyNotes). n.numbering) stays)) are.numbering)))
     (c.in_ok-tell.ensures.log
-    ∙ ap (with_told old.log.items c.args.number) (c.in_ok-told.ensures ∙ ap (told_by c.args.cont.now) woken))
+    ∙ ap (with_told old.log.items c.args.number) (c.in_ok-told.ensures ∙ ap (reply_of_call c.args.cont.now) woken))
     (ap (λ (n : AnyNotes). n.turned_away) stays) (ap (λ (n : AnyNotes). n.uuid) stays)
