@@ -12,8 +12,9 @@ usage: crates.py drawing | definitions
 import collections
 import re
 
+import packaged  # noqa: F401  (where tulgexar is)
 import shipped
-from words import BadWords, run
+from tulgexar.words import BadWords, run
 
 # A floor: its name, and its crates, lowest first, each with those of the repository that it stands on.
 Floor = collections.namedtuple("Floor", "name crates")
