@@ -804,15 +804,16 @@ def check_crates(comparison):
         for crate, below in floor.crates.items():
             comparison.same(f"crates.txt: {crate} stands on crates behind it", [name for name in below if name not in seen], [])
             seen.add(crate)
-    architecture, proofs = (shipped.read(shipped.ROOT / "docs" / name) for name in ("architecture.md", "proofs.md"))
+    names = ("architecture.md", "proofs.md", "wrong-bodies.md")
+    architecture, proofs, wrong = (shipped.read(shipped.ROOT / "docs" / name) for name in names)
     comparison.same("architecture.md: the drawing", architecture.split("```\n")[1], crates.drawing())
     comparison.same("architecture.md: the crates", documented.crates_by_floor(architecture, "The crates"), floors)
     comparison.same("proofs.md: crate by crate", documented.crates_by_floor(proofs, "Crate by crate"), floors)
     listed = shipped.read(shipped.ROOT / "docs/definitions-by-crate.md")
     comparison.same("definitions-by-crate.md: the files of definitions", listed, crates.definitions())
-    named = set(re.findall("`([a-z0-9_]+)`", proofs))
+    named = set(re.findall("`([a-z0-9_]+)`", wrong))
     edits = [path.stem for path in sorted(shipped.CRATES.glob("*/must-fail/*.edit"))]
-    comparison.same("proofs.md: edits that it doesn't name", [edit for edit in edits if edit not in named], [])
+    comparison.same("wrong-bodies.md: edits that it doesn't name", [edit for edit in edits if edit not in named], [])
 
 
 def check_words(comparison):
