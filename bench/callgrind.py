@@ -2,7 +2,11 @@
 
 import re
 import subprocess
+import sys
 import tempfile
+
+# The functions that make an entry and an exit of the core, with the granted steps between them.
+SERVING = "entering::enter", "Work::run", "going_out::leave"
 
 
 def counted(program, *words, given=b""):
@@ -30,6 +34,16 @@ def costs(program, *words, given=b""):
     total = int(re.search(rb"Collected : (\d+)", run.stderr).group(1))
     found = re.findall(r"^ *([\d,]+) +\S*?:(\S+)", told, re.MULTILINE)
     return total, {name: int(cost.replace(",", "")) for cost, name in found}, run.stdout
+
+
+def cost_of(functions, *ends):
+    """What the functions with these ends of their names cost, of those that `costs` has found: each has to be there, as one that the compiler
+    has put into its callers would count as nothing."""
+    found = {end: [cost for name, cost in functions.items() if name.split("::<")[0].endswith(end)] for end in ends}
+    missing = [end for end, some in found.items() if not some]
+    if missing:
+        sys.exit(f"no function's name ends with {' or '.join(missing)}: it has another name now, or stands in its callers")
+    return sum(cost for some in found.values() for cost in some)
 
 
 def most_heap(program, *words, given=b""):

@@ -14,10 +14,8 @@ import subprocess
 import sys
 import time
 
-from callgrind import costs, most_heap
+from callgrind import SERVING, cost_of, costs, most_heap
 from playing import BY_VECTORS, PROGRAM, trace
-
-SERVING = "entering::enter", "Work::run", "going_out::leave"
 
 
 def said(given, word):
@@ -31,7 +29,7 @@ def counted(word, given, calls):
     """How many instructions the program needs, in all, and to serve the entries and exits and their steps."""
     whole, functions, printed = costs(PROGRAM, word, given=given)
     assert word != "audit" or printed == b"legal %d\n" % (2 * calls), printed
-    return {"in all": whole, "serving": sum(cost for name, cost in functions.items() if name.endswith(SERVING))}
+    return {"in all": whole, "serving": cost_of(functions, *SERVING)}
 
 
 def inputs(calls):

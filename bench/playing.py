@@ -3,7 +3,7 @@
 
 Makes the trace of seed 7 that docs/formats.md defines, with N and with 2N calls, as text, and gives it to `optee_run
 run` under callgrind: a further call costs the difference of both by N. Serving is an entry and an exit of the core,
-printing is what the exit of a trace needs besides, and reading is the rest. Blocks are moved and cleared by vectors
+printing is what tells the registers of an exit, and reading is the rest. Blocks are moved and cleared by vectors
 here: by `rep` instructions, which is the C library's way with long ones, callgrind counts each byte. Then it prints
 the most memory that the program takes for each of the traces, beside the bytes of the text and of the lanes. Build
 the program first, by `rt run` in crates/optee_run.
@@ -17,7 +17,7 @@ import subprocess
 import sys
 import tempfile
 
-from callgrind import costs
+from callgrind import SERVING, cost_of, costs
 
 PROGRAM = pathlib.Path(__file__).resolve().parent.parent / "crates/optee_run/out/optee_run"
 SEED = 7
@@ -77,10 +77,7 @@ def measured(count):
     """What the program needs for so many calls: in all, and for each part of it."""
     whole, functions, printed = costs(PROGRAM, "run", given=trace(count).encode())
     assert printed.count(b"ret ") == count, printed
-    named = lambda part: sum(cost for name, cost in functions.items() if name.split("::<")[0].endswith(part))
-    going_out = named("Player::leave")
-    serving = named("entering::enter") + named("Machine::leave")
-    printing = going_out - named("Machine::leave")
+    serving, printing = cost_of(functions, *SERVING), cost_of(functions, "Player::tell")
     return {"in all": whole, "reading": whole - serving - printing, "serving": serving, "printing": printing}
 
 

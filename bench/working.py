@@ -2,7 +2,7 @@
 """Counts the instructions that a further call of a made trace costs by the word `work`, and the most memory.
 
 Runs `optee_run work 7 N` and `optee_run work 7 2N` under callgrind: a further call costs the difference of both by N. Serving
-is an entry and an exit of the core, printing is what the exit of a trace needs besides, digesting is SHA-256 over the
+is an entry and an exit of the core, printing is what tells the registers of an exit, digesting is SHA-256 over the
 lines, and making is the rest: the items and what goes over them. Blocks are counted as in playing.py. Then it prints the
 most bytes that stand on the heap at once while `work 7 65536` runs (massif), the lanes taken off. Build the program
 first, by `rt run` in crates/optee_run.
@@ -12,7 +12,7 @@ Usage: bench/working.py [N..]
 import os
 import sys
 
-from callgrind import costs, most_heap
+from callgrind import SERVING, cost_of, costs, most_heap
 from playing import BY_VECTORS, LANE, PROGRAM, SEED
 
 MOST_CALLS = 65_536
@@ -23,10 +23,7 @@ def measured(count):
     """What the program needs for so many calls: in all, and for each part of it."""
     whole, functions, printed = costs(PROGRAM, "work", str(SEED), str(count))
     assert printed.startswith(f"work {SEED} {count} ".encode()), printed
-    named = lambda part: sum(cost for name, cost in functions.items() if name.split("::<")[0].endswith(part))
-    serving = named("entering::enter") + named("Machine::leave")
-    printing = named("Player::leave") - named("Machine::leave")
-    digesting = named("Core256::update")
+    serving, printing, digesting = cost_of(functions, *SERVING), cost_of(functions, "Player::tell"), cost_of(functions, "Core256::update")
     making = whole - serving - printing - digesting
     return {"in all": whole, "making": making, "serving": serving, "printing": printing, "digesting": digesting}
 
