@@ -13,13 +13,16 @@ Words, in any order:
     boot=FILE   the core is booted by a boot description (embed/teec/README.md), before the first line
     log=FILE    the conversation is kept in a file as a trace, for `run`, or with signals for `notify`: the lines that the program has
                 taken, without questions, and at the end a `leave` of each processor that is inside
-The program is the one of program=FILE, of the description, or what `rt run` has built in crates/optee_live.
+The program is the one of program=FILE, of the description, of TULGEXAR_LIVE, or what `rt run` has built in crates/optee_live.
 
 With `serve` a call that sleeps, because a call that is inside or left suspended holds its instance, stays so, and goes on behind the next
 line of a call.
 
+A line that can't be sent, as it isn't of a script's form, is told with its number on standard error, at a terminal below it; the conversation
+goes on.
 Status: that of the program, which is 0 where its input is over; 1 where it ends before with 0, gives no answer within 60 seconds, or answers
-otherwise than a conversation; 2 at other words, or a description that is wrong.
+otherwise than a conversation, where a line of an input can't be sent, or the core refuses what it is booted with; 2 at other words, or a
+description that is wrong.
 usage: live.py [program=FILE] [boot=FILE] [log=FILE] [script] [serve] [notes]
 """
 
@@ -28,7 +31,6 @@ import os
 import pathlib
 import re
 import select
-import signal
 import subprocess
 import sys
 import time
@@ -38,7 +40,7 @@ from typing import NamedTuple, NoReturn
 from tulgexar import description, formats, image, lift, places, plays, program
 from tulgexar.formats import RAM_BYTES, RAM_START
 from tulgexar.supplicant import Supplicant
-from tulgexar.words import BadWords, octets, plain, run, text_of
+from tulgexar.words import BadWords, plain, run
 
 MOST_SHOWN, MOST_STEPS = 4096, 1_000_000
 PATIENCE = 60  # seconds that an answer may take
@@ -86,10 +88,11 @@ class Refused(Exception):
 
 
 class Over(Exception):
-    """The program has ended, with this status."""
+    """The program, where it is named that of this file, has ended with this status. One that has said nothing may be another program."""
 
-    def __init__(self, status: int) -> None:
-        super().__init__(f"the program has ended with status {status}")
+    def __init__(self, status: int, file: str | os.PathLike[str] | None = None, is_known: bool = True) -> None:
+        doubt = "" if is_known else ": is it the program of crates/optee_live?"
+        super().__init__(f"{file or 'the program'} {program.how_ended(status)}{doubt}")
         self.status = status
 
 
@@ -161,7 +164,7 @@ class Conversation:
         self.ram: list[bytearray] | None = None
         self.panic: int | None = None
         self.log = Log(log) if log else None
-        self.file, self.read_ahead = program.found("optee_live", file), b""
+        self.file, self.read_ahead, self.is_known = program.found("optee_live", file), b"", False
         self.process = program.started(self.file, stdin=subprocess.PIPE, stdout=subprocess.PIPE)
         if watch:
             self.ask("watch on")
@@ -192,8 +195,8 @@ class Conversation:
             self.process.stdin.write(line.encode("latin-1") + b"\n")
             self.process.stdin.flush()
         except BrokenPipeError:
-            raise Over(self.process.wait()) from None
-        answer = self.answer(line.partition(" ")[0])
+            pass  # the program has ended: what it has said is read first
+        answer, self.is_known = self.answer(line.partition(" ")[0]), True
         if self.ram is not None and answer.ending == "ok":
             self.copy(line, answer)
         if self.log and answer.ending == "ok" and is_of_trace(line):
@@ -248,7 +251,7 @@ class Conversation:
                 self.stop(f"{self.file} has given no answer within {self.patience} seconds")
             part = os.read(stream, PIPE_BYTES)
             if not part:
-                raise Over(self.ended())
+                raise Over(self.ended(), self.file, self.is_known)
             self.read_ahead += part
         line, _, self.read_ahead = self.read_ahead.partition(b"\n")
         return line.decode("latin-1")
@@ -439,6 +442,7 @@ class Prompt(Notes):
         self.script, self.driver = lift.Script(pathlib.Path()), Driver(self.talk)
         self.inside, self.asleep = set(), []  # processors that are inside; calls that sleep
         self.typed = None  # a line that stands on the terminal
+        self.has_refused = False  # whether a line of an input was none that can be sent
 
     def heard(self, line, answer):
         """Prints a line and its answer. One that stands on the terminal isn't printed again."""
@@ -462,7 +466,7 @@ class Prompt(Notes):
         """Keeps the image that a line of a script names, with its map."""
         if "script" in self.options and words[:1] == ["image"] and len(words) > 2:
             path = self.script.folder / words[2]
-            digits = octets("".join(text_of(path).split()))
+            digits = image.digits_of(path)
             if image.refusal(digits) is None:
                 self.sources.append((image.decode(digits), places.map_beside(path)))
 
@@ -526,20 +530,30 @@ class Prompt(Notes):
         try:
             if described:
                 self.talk.boot(described)
-            for text in self.typed_lines():
+            for place, text in enumerate(self.typed_lines(), 1):
                 try:
                     self.take(text)
                 except (BadWords, Refused) as error:
-                    print(f"  {plain(str(error))}")
+                    self.refuse(place, text, error)
+        except Refused as refused:
+            kind = refused.ending.partition(" ")[2]
+            print(f"live.py: the core isn't booted: {plain(str(refused))}: {fault_of(refused.line, kind)}", file=sys.stderr)
+            self.has_refused = True
         except Over as over:
             print(f"live.py: {over}", file=sys.stderr)
             return over.status or 1
         except NoConversation as wrong:
             print(f"live.py: {wrong}", file=sys.stderr)
             return 1
-        except BrokenPipeError:  # nobody reads what is printed
-            os.dup2(os.open(os.devnull, os.O_WRONLY), sys.stdout.fileno())
-        return self.talk.close()
+        return self.talk.close() or int(self.has_refused)
+
+    def refuse(self, place, text, error):
+        """Says why a line can't be sent: at a terminal below it, else with its number."""
+        if sys.stdin.isatty():
+            print(f"  {plain(str(error))}")
+            return
+        self.has_refused = True
+        print(f"live.py: line {place}: {plain(text[:80])}: {plain(str(error))}", file=sys.stderr)
 
 
 def fault_of(line, kind):
@@ -573,7 +587,6 @@ def main(words):
         if word not in OPTIONS or words.count(word) > 1:
             raise BadWords(f"{word} isn't served here, or stands twice: the words are {', '.join(OPTIONS)}")
     described = described_by(path) if path is not None else None
-    signal.signal(signal.SIGPIPE, signal.SIG_IGN)  # a program that has ended is told by its status
     try:
         prompt = Prompt(file or described and described.program, words, log)
     except OSError as error:

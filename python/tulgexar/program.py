@@ -3,6 +3,7 @@
 import collections
 import os
 import pathlib
+import signal
 import subprocess
 import tempfile
 
@@ -38,6 +39,13 @@ def started(path, *words, **streams):
         return subprocess.Popen([path, *words], **streams)
     except OSError as error:
         raise BadWords(f"{path} is no program: {error.strerror}") from error
+
+
+def how_ended(status):
+    """How a program has ended, by the status that subprocess.Popen has."""
+    if status >= 0:
+        return f"has ended with status {status}"
+    return f"was ended by {next((one.name for one in signal.Signals if one == -status), f'signal {-status}')}"
 
 
 class Program:

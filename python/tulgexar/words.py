@@ -1,5 +1,6 @@
 """Words that the tools take: their forms, and how a tool ends at one that doesn't fit. It isn't run by itself."""
 
+import os
 import pathlib
 import re
 import signal
@@ -10,6 +11,7 @@ if sys.version_info < (3, 10):
 
 CONTROLS = {code: f"\\x{code:02x}" for code in (*range(32), 127) if chr(code) not in "\t\n"}
 HELP = ("--help", "-h")
+UNREAD = 128 + signal.SIGPIPE  # the status of a tool whose output nobody reads, as a shell has it
 
 
 class BadWords(Exception):
@@ -60,6 +62,11 @@ def text_of(name):
         raise BadWords(f"{name}: {error.strerror}") from error
 
 
+def lines_of(text):
+    """The lines of a text, without the line feeds that end them, as the program counts them."""
+    return text.removesuffix("\n").split("\n") if text else []
+
+
 def write_text(name, text):
     """Writes the text of a file."""
     try:
@@ -68,24 +75,46 @@ def write_text(name, text):
         raise BadWords(f"{name}: {error.strerror}") from error
 
 
+def behind(words, option, what="a file"):
+    """The word behind an option, which is taken away with it, or None; what is wanted there is said where it is missing."""
+    if option not in words:
+        return None
+    at = words.index(option)
+    if at + 1 == len(words):
+        raise BadWords(f"{what} is wanted behind {option}, and no word is left")
+    del words[at]
+    return words.pop(at)
+
+
 def plain(text):
     """A text in which control characters stand as \\xNN, so that no terminal obeys them."""
     return text.translate(CONTROLS)
 
 
+def print_no_more():
+    """What is printed from here on goes nowhere: nobody reads it."""
+    os.dup2(os.open(os.devnull, os.O_WRONLY), sys.stdout.fileno())
+
+
 def run(main, doc, words=None):
     """Ends with the status of a tool's main over the words of its call, or, at words that it doesn't serve, with the usage line of
-    doc, and 2. Where help is asked for, doc is printed."""
-    signal.signal(signal.SIGPIPE, signal.SIG_DFL)
+    doc, and 2. Where help is asked for, doc is printed. Where nobody reads what is printed, it ends without a word, with UNREAD; a pipe to
+    another program that has ended is its user's to tell (live.Over)."""
     sys.stdout.reconfigure(encoding="latin-1")
     sys.stderr.reconfigure(errors="backslashreplace")
     words = sys.argv[1:] if words is None else words
     try:
         if len(words) == 1 and words[0] in HELP:
             print(doc.strip())
-            sys.exit(0)
-        sys.exit(main(words))
+            status = 0
+        else:
+            status = main(words)
+        sys.stdout.flush()
     except BadWords as error:
         usage = next(line for line in doc.splitlines() if line.startswith("usage: "))
         print(f"{plain(str(error))}\n{usage}" if str(error) else usage, file=sys.stderr)
-        sys.exit(2)
+        status = 2
+    except BrokenPipeError:
+        print_no_more()
+        status = UNREAD
+    sys.exit(status)
