@@ -14,11 +14,10 @@ DIGEST = "3f0c7a11-52b8-4d6e-9a40-0e6b5d2c8f01"  # built in
 IMAGES = {ADD: "add", CLOCK: "clock", PANIC: "panic"}  # each with one page, and an instance for each session
 CPUS, THREADS, FRAMES = 2, 2, 4
 
-ARGUMENT, OUTPUT, LIST, MEMORY = 0x4000_0000, 0x4001_0000, 0x4002_0000, 0x4010_0000
+ARGUMENT, OUTPUT, LIST, MEMORY = formats.RAM_START, 0x4001_0000, 0x4002_0000, 0x4010_0000
 LENT, COOKIE = 0x4003_0000, 7  # of a call that asks for something
 LISTED, REGISTERED = 4, 0x55  # pages of a registered buffer, and its cookie
 MOST_MEMORY = 65_536  # bytes of one parameter
-MOST_READ = 1 << 28  # by all entries of a core that keeps its history
 BESIDE = 3 * f"tmem_in {MEMORY:x} {MOST_MEMORY} "
 HEAD, PARAMETER = formats.HEAD_BYTES, formats.PARAMETER_BYTES
 TIME_READ = 20  # bytes of a reply that tells the time
@@ -127,7 +126,7 @@ class Life:
 
     def add_beside_memory(self, session, a, b):
         """Likewise, with as much memory as a call can have beside. Where it would read more than may be read, its entry is refused."""
-        if not self.is_kept or self.copied + HEAD + 4 * PARAMETER + 3 * MOST_MEMORY <= MOST_READ:
+        if not self.is_kept or self.copied + HEAD + 4 * PARAMETER + 3 * MOST_MEMORY <= formats.MOST_READ:
             self.add(session, a, b, BESIDE, 3 * MOST_MEMORY)
             return True
         self.write(ARGUMENT, arg.argument(f"invoke {session} 0 value_inout {a} {b} {BESIDE}".split()))

@@ -17,7 +17,6 @@ import pathlib
 import random
 import re
 import select
-import signal
 import subprocess
 import sys
 import tempfile
@@ -278,7 +277,7 @@ def try_questions(tests):
             for line, _ in case.turns:
                 if line != "watch off":
                     talk.send(line)
-            seen = [talk.read(cpu, formats.RAM_START, live.RAM_BYTES) == ram for cpu, ram in enumerate(talk.ram)]
+            seen = [talk.read(cpu, formats.RAM_START, formats.RAM_BYTES) == ram for cpu, ram in enumerate(talk.ram)]
             tests.same(f"{case.name}, its copies of RAM", seen, [True] * len(seen))
 
 
@@ -427,7 +426,7 @@ def try_limit(tests):
         with tests.start() as process:
             living = Living(process, is_kept)
             living.ages(1)
-            session, until = living.life.open(life.ADD), life.MOST_READ if is_kept else 1 << 32
+            session, until = living.life.open(life.ADD), formats.MOST_READ if is_kept else 1 << 32
             while living.goes_on() and living.life.copied <= until and living.life.add_beside_memory(session, living.life.turns, 7):
                 pass
             living.life.smc([life.GET_THREAD_COUNT], [0, life.THREADS])
@@ -474,7 +473,7 @@ def try_fuzzer(tests):
 def fuzzed(path, seed):
     """What the fuzzer says of 2,000 turns."""
     words = [sys.executable, "-B", shipped.ROOT / "examples/live_fuzzer.py", path, str(seed), "2000"]
-    environment = {**os.environ, "PYTHONPATH": str(shipped.ROOT / "tools")}
+    environment = {**os.environ, "PYTHONPATH": str(shipped.ROOT / "python")}
     return subprocess.run(words, env=environment, capture_output=True, timeout=PATIENCE, check=False)
 
 
@@ -572,7 +571,6 @@ def main(words):
         raise BadWords()
     if turns < FEWEST_TURNS:
         raise BadWords(f"a long life has at least {FEWEST_TURNS} turns")
-    signal.signal(signal.SIGPIPE, signal.SIG_IGN)
     comparison = Comparison()
     path = program.found("optee_live", file)
     try:

@@ -15,6 +15,7 @@ Status: 0 where nothing is left over, 1 where the output isn't that of the trace
 usage: annotate.py TRACE OUTPUT | FOLDER OUTPUT | JOURNAL
 """
 
+import pathlib
 import re
 import sys
 
@@ -48,9 +49,14 @@ def annotated(entries):
 def main(words):
     if len(words) not in (1, 2):
         raise BadWords()
+    if len(words) == 1 and pathlib.Path(words[0]).is_dir():
+        raise BadWords(f"{words[0]} is a folder: behind it OUTPUT is wanted, which `rt try --cases {words[0]} -- run` has printed")
     try:
         entries = plays.of_files(*words) if len(words) == 2 else journal.told(text_of(words[0]).encode("latin-1"))
         print(plain(annotated(entries)), end="")
+    except journal.NoJournal as mismatch:
+        print(f"annotate.py: {words[0]}: {mismatch}; behind a trace OUTPUT is wanted", file=sys.stderr)
+        return 1
     except plays.Mismatch as mismatch:
         print(plain(annotated(mismatch.entries)), end="")
         print(f"annotate.py: {plain(str(mismatch))}", file=sys.stderr)

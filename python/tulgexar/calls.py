@@ -23,6 +23,8 @@ VERBS = {
 # an open, or None, and the session in words.
 Head = collections.namedtuple("Head", "address fields uuid session")
 
+Parameter = collections.namedtuple("Parameter", formats.PARAMETER)
+
 
 class Brought(collections.namedtuple("Brought", "cpu registers asked begins head", defaults=[None])):
     """An entry: its processor and registers; what its call asks for; whether it passes the tests behind which it has a thread (None where
@@ -55,9 +57,20 @@ def is_in_ram(address, length):
     return formats.RAM_START <= address and address + length <= formats.RAM_START + formats.RAM_BYTES
 
 
+def head_fields(argument):
+    """The fields of an argument's head by their names, of its bytes."""
+    return dict(zip(formats.HEAD, struct.unpack_from("<8I", argument)))
+
+
+def parameters_in(data):
+    """The parameters that lie in bytes one behind the other, each by its fields attr, p, q and s."""
+    whole = len(data) // formats.PARAMETER_BYTES * formats.PARAMETER_BYTES
+    return [Parameter(*fields) for fields in struct.iter_unpack("<4Q", data[:whole])]
+
+
 def head_at(cpu, address, lanes):
     """The head of the argument at an address."""
-    fields = dict(zip(formats.HEAD, struct.unpack("<8I", lanes.bytes_at(cpu, address, formats.HEAD_BYTES))))
+    fields = head_fields(lanes.bytes_at(cpu, address, formats.HEAD_BYTES))
     application = uuid.UUID(bytes=lanes.bytes_at(cpu, address + formats.HEAD_BYTES + 8, 16)) if fields["num_params"] else None
     session = f"session {fields['session']}" if lanes.knows(cpu, address + SESSION_AT, 4) else "the session of an open before"
     return Head(address, fields, application, session)

@@ -3,7 +3,8 @@ and how two journals of a session, or of an application's sessions, are differen
 
 JOURNAL is the bytes of one journal; `-` is standard input. The program audits it. Where it says `illegal AT`, its events up to that one are
 played as a trace, over the bytes that its entries have read, and what the program records of that is what was wanted. The events of the call
-stand above, each as annotate.py tells it. The program is what `rt run` has built in crates/optee_run, or FILE.
+stand above, each as annotate.py tells it. The program is
+FILE, the one that TULGEXAR_RUN names, or what `rt run` has built in crates/optee_run.
 
 Behind `compare ID` or `compare UUID` stand two journals, in one file or in two. Where the program says `events N`, the events of both that are
 N of the session's own stand below, each with what led there; at `other` the entries of both opens; and behind them what differs by its name.
@@ -13,8 +14,8 @@ usage: explain.py [program=FILE] JOURNAL | compare ID|UUID JOURNALS | compare ID
 
 import bisect
 import collections
+import itertools
 import re
-import struct
 import sys
 
 from tulgexar import annotate, calls, client, formats, image, journal, plays, program
@@ -282,8 +283,7 @@ def argument_of(event):
     """The parameters of a new call, by names, and what else was read."""
     parts = {}
     if len(event.reads) > 1:
-        data = event.reads[1][1]
-        for k, (attribute, p, q, s) in enumerate(struct.iter_unpack("<4Q", data[: len(data) // 32 * 32])):
+        for k, (attribute, p, q, s) in enumerate(calls.parameters_in(event.reads[1][1])):
             kind = formats.KINDS.get(attribute & 0xFF, f"{attribute:x}")
             parts[f"parameter {k}"] = f"{kind} {p:x}, {q:x}, {s:x}" if kind.startswith("value") else f"{kind} of {q} bytes" if "mem" in kind else kind
     return parts | reads_of(event.reads[2:])
@@ -308,25 +308,34 @@ def differences(one, two):
     return lines or ["differs: what both read is the same; what became of it before is different"]
 
 
+def journals_in(names):
+    """The bytes of the journals that lie in files one behind the other, each with its end. A Mismatch names the file."""
+    found = []
+    for name in names:
+        data = text_of(name).encode("latin-1")
+        try:
+            found += parted(data)
+        except plays.Mismatch as mismatch:
+            raise plays.Mismatch(f"{name}: {mismatch}") from mismatch
+    return found
+
+
 def parted(data):
-    """The bytes of two journals, each with its end."""
+    """The bytes of the journals that lie one behind the other, each with its end."""
     reader, ends = journal.Reader(data), [0]
-    for _ in range(2):
-        if reader.at == len(data):
-            raise plays.Mismatch("two journals are wanted behind compare, and one is there")
+    while reader.at < len(data) or len(ends) == 1:
         for _ in journal.records(reader):
             pass
         ends.append(reader.at)
         reader.record += 1
-    return data[: ends[1]], data[ends[1] : ends[2]]
+    return [data[one:other] for one, other in itertools.pairwise(ends)]
 
 
 def audited(words, runner):
     """The verdict on a journal, and the lines that explain it."""
     if len(words) != 1:
         raise BadWords()
-    data = text_of(words[0]).encode("latin-1")
-    journal.told(data)
+    data = b"".join(journals_in(words))
     said = runner.run(["audit"], data.decode("latin-1")).output.strip()
     named = re.fullmatch("illegal ([0-9]+)", said)
     if not named and not re.fullmatch("legal [0-9]+|bad trace [0-9]+ [a-z]+", said):
@@ -341,9 +350,10 @@ def compared(words, runner):
     subject, *names = words
     if not re.fullmatch("0|[1-9][0-9]*", subject):
         uuid(subject)
-    data = b"".join(text_of(name).encode("latin-1") for name in names)
-    journal.told(data)
-    return verdict(subject, data, runner)
+    journals = journals_in(names)
+    if len(journals) != 2:
+        raise plays.Mismatch(f"two journals are wanted behind compare, and {len(journals)} {'is' if len(journals) == 1 else 'are'} there")
+    return verdict(subject, b"".join(journals), runner)
 
 
 def verdict(subject, data, runner):

@@ -49,6 +49,9 @@ CAPABILITIES = [
 # Glossary, "Lane": the RAM of the normal world as one processor sees it
 RAM_START, RAM_BYTES = 0x4000_0000, 0x40_0000
 
+# What an entry reads, and what an exit writes: bytes that all entries of a run, or of a core that keeps its history, read at most
+MOST_READ = 1 << 28
+
 # Message argument
 HEAD_BYTES = PARAMETER_BYTES = 32
 MOST_PARAMETERS = 6

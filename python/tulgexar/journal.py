@@ -10,6 +10,10 @@ MAGIC, END = b"OTTJ", 0x7F
 REGISTERS = struct.Struct("<8I")
 
 
+class NoJournal(plays.Mismatch):
+    """Bytes that don't begin as a journal."""
+
+
 class Reader:
     """Takes numbers and bytes from the front of a journal; its record counts from 1."""
 
@@ -60,7 +64,7 @@ FORMS = {
 def records(reader):
     """The records of a reader's next journal, up to its end; other bytes are a Mismatch."""
     if reader.take(4) != MAGIC:
-        raise plays.Mismatch("these bytes aren't a journal; behind a trace OUTPUT is wanted")
+        raise NoJournal("these bytes aren't a journal, which begins with OTTJ")
     while (tag := reader.take(1)[0]) != END:
         if tag not in FORMS:
             raise plays.Mismatch(f"record {reader.record} has the tag {tag:02x}, which is none")

@@ -2,11 +2,10 @@
 any RAM that can be read and written by `read(cpu, address, length)` and `write(cpu, address, data)`, and that knows by
 `place_of(cookie, offset)` where a byte of a registered buffer is, or None. It isn't run by itself."""
 
-import struct
 from collections.abc import Sequence
 from typing import NamedTuple, Protocol
 
-from tulgexar import arg, formats
+from tulgexar import arg, calls, formats
 
 MOST_FILE_BYTES = 1 << 20
 MOST_PARAMETERS = 3  # of a request
@@ -162,12 +161,11 @@ class Supplicant:
     def request(self, cpu: int, lent: Lent) -> Request:
         """The request that stands where the call's requests do."""
         data = self.ram.read(cpu, lent.place, MESSAGE_BYTES)
-        command, count = struct.unpack_from("<I24xI", data)
-        places = [formats.HEAD_BYTES + formats.PARAMETER_BYTES * index for index in range(min(count, MOST_PARAMETERS))]
-        parameters = [struct.unpack_from("<4Q", data, place) for place in places]
+        head = calls.head_fields(data)
+        parameters = calls.parameters_in(data[formats.HEAD_BYTES :])[: min(head["num_params"], MOST_PARAMETERS)]
         values = [(p, q, s) for _, p, q, s in parameters]
         kind = values[0][0] if values else None
-        name = formats.REQUESTS.get((command, None), formats.REQUESTS.get((command, kind), "Other"))
+        name = formats.REQUESTS.get((head["cmd"], None), formats.REQUESTS.get((head["cmd"], kind), "Other"))
         length = next((q for attribute, _, q, _ in parameters if formats.KINDS.get(attribute) == "tmem_in"), 0)
         return Request(name, values, self.ram.read(cpu, lent.buffer + formats.PAYLOAD_AT, length) if length else b"")
 
