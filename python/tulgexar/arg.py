@@ -47,13 +47,13 @@ def parameter_at(index: int, field: str) -> int:
 def argument(words: Iterable[str]) -> bytes:
     """The bytes of the argument that the words ask for."""
     words = list(words)
-    return last(words, take(words, CALLS.get, "call")(words))
+    return last(words, chosen(words, CALLS, "call")(words))
 
 
 def reply(words: Iterable[str]) -> list[tuple[int, bytes]]:
     """The pieces of the reply that the words ask for, each (offset, bytes)."""
     words = list(words)
-    return last(words, take(words, REPLIES.get, "reply")(words))
+    return last(words, chosen(words, REPLIES, "reply")(words))
 
 
 def take(words, form, what="word", **bits):
@@ -65,6 +65,14 @@ def take(words, form, what="word", **bits):
     if value is None:
         raise BadWords(f"{word} is no {what}")
     return value
+
+
+def chosen(words, table, what):
+    """What the first word, taken away, names in a table."""
+    word = take(words, str, what)
+    if word not in table:
+        raise BadWords(f"{word} is no {what}: they are {', '.join(table)}")
+    return table[word]
 
 
 def last(words, made):

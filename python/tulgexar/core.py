@@ -5,17 +5,16 @@
         talk.call(f"invoke {session} 0 value_inout 5 7").values[0]      # (12, 0)
 """
 
+import contextlib
+import dataclasses
 import os
 import pathlib
-import struct
 from collections.abc import Callable, Iterable, Mapping
 from typing import Any, NamedTuple
 
-from tulgexar import arg, description, formats
-from tulgexar.live import Answer, Conversation, Driver
-from tulgexar.words import octets, text_of
-
-ARGUMENT = 0x4000_0000  # where a call's argument lies, where nothing else is said
+from tulgexar import arg, calls, description, formats, image
+from tulgexar.live import Answer, Conversation, Driver, NoConversation, Over
+from tulgexar.words import uuid
 
 
 class NotTaken(Exception):
@@ -34,8 +33,8 @@ class Ended(NamedTuple):
 
 def ended(argument: bytes) -> Ended:
     """What an argument says behind its call."""
-    head = dict(zip(formats.HEAD, struct.unpack_from("<8I", argument)))
-    parameters = [(p, q) for p, q in struct.iter_unpack("<8x2Q8x", argument[formats.HEAD_BYTES :])]
+    head = calls.head_fields(argument)
+    parameters = [(parameter.p, parameter.q) for parameter in calls.parameters_in(argument[formats.HEAD_BYTES :])]
     result = formats.RESULTS.get(head["ret"], f"{head['ret']:08x}")
     return Ended(result, formats.ORIGINS.get(head["ret_origin"], str(head["ret_origin"])), head["session"], parameters)
 
@@ -46,17 +45,27 @@ def booted(
     **settings: Any,
 ) -> description.Description:
     """A boot description that is told in Python: what description.Description has, of which `cpus` is 1, `threads` 4 and `frames` 16 where
-    nothing is said. An application is told by its UUID: its image's bytes, or a file of its digits, in the folder."""
-    usual: dict[str, Any] = {"cpus": 1, "threads": 4, "frames": 16}
-    told = description.Description(**usual | settings)
-    for uuid, image in (applications or {}).items():
-        told.applications[uuid] = image.hex() if isinstance(image, bytes) else digits_in(pathlib.Path(folder, image))
-    return told
+    nothing is said. An application is told by its UUID: its image's bytes, or a file of its digits, in the folder. BadWords at settings that
+    aren't in their limits, or that there aren't."""
+    return changed(description.Description(cpus=1, threads=4, frames=16), folder, applications, **settings)
 
 
-def digits_in(path: pathlib.Path) -> str:
-    """The digits of the image in a file."""
-    return octets("".join(text_of(str(path)).split())).hex()
+def changed(
+    described: description.Description,
+    folder: str | os.PathLike[str] = ".",
+    /,
+    applications: Mapping[str, str | bytes] | None = None,
+    **settings: Any,
+) -> description.Description:
+    """A boot description with settings in the place of its own, told likewise; applications stand beside its own, or in the place of those of
+    their UUIDs."""
+    for name, value in settings.items():
+        description.refuse_setting(name, value)
+    told = dict(described.applications)
+    for name, data in (applications or {}).items():
+        uuid(name)
+        told[name.lower()] = data.hex() if isinstance(data, bytes) else image.digits_of(pathlib.Path(folder, data)).hex()
+    return dataclasses.replace(described, applications=told, **settings)
 
 
 class Core(Conversation):
@@ -77,7 +86,8 @@ class Core(Conversation):
         try:
             self.boot(described)
         except BaseException:
-            self.close()
+            with contextlib.suppress(Over, NoConversation):  # the first cause is told
+                Conversation.close(self)
             raise
 
     def keep(self, line: str, answer: Answer) -> None:
@@ -89,7 +99,7 @@ class Core(Conversation):
     def __enter__(self) -> "Core":
         return self
 
-    def call(self, words: str | Iterable[str], cpu: int = 0, client: int = 0, at: int = ARGUMENT) -> Ended:
+    def call(self, words: str | Iterable[str], cpu: int = 0, client: int = 0, at: int = formats.RAM_START) -> Ended:
         """Makes the call of an argument that arg.py writes for the words, and serves it to its end."""
         argument = arg.argument(words.split() if isinstance(words, str) else words)
         self.write(cpu, at, argument)

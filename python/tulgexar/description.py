@@ -1,6 +1,7 @@
 """Reads boot descriptions: what a core is booted with, and how it is used. It isn't run by itself.
 
-embed/teec/README.md has their lines. The library for C reads them too (embed/teec/src/description.c), and says the same causes.
+embed/teec/README.md has their lines. The library for C reads them too (embed/teec/src/description.c), and says the same causes; here stands
+behind a cause which word or file it is of.
 """
 
 import dataclasses
@@ -9,9 +10,12 @@ import pathlib
 import re
 from collections.abc import Iterator
 
+from tulgexar.words import BadWords
+
 UUID = re.compile("[0-9a-f]{8}(-[0-9a-f]{4}){3}-[0-9a-f]{12}", re.IGNORECASE)
 HEXADECIMAL = re.compile("[0-9a-f]*", re.IGNORECASE)
-MOST_CPUS, MOST_THREADS, MOST_FRAMES, MOST_STEPS, MOST_LIMIT = 8, 16, 1024, 1_000_000, 3_600_000
+MOST = {"cpus": 8, "threads": 16, "frames": 1024, "steps": 1_000_000, "limit": 3_600_000}  # of settings that are numbers, from 1 on
+SWITCHES, PATHS = ("is_virtual", "has_history"), ("program", "files")
 MOST_APPLICATIONS, MOST_IMAGES = 16, 64
 
 
@@ -20,7 +24,10 @@ class Fault(Exception):
 
 
 class Wrong(Exception):
-    """The cause why a line is wrong."""
+    """The cause why a line is wrong, and the word or file that it is of."""
+
+    def __init__(self, cause: str, detail: object = "") -> None:
+        super().__init__(f"{cause}: {detail}" if detail else cause)
 
 
 @dataclasses.dataclass
@@ -61,47 +68,48 @@ class Reading:
             return
         form = FORMS.get(words[0])
         if form is None:
-            raise Wrong("a word that isn't known")
-        if len(words) != form.count:
-            raise Wrong("another number of words")
+            raise Wrong("a word that isn't known", f"{words[0]}; they are {', '.join(FORMS)}")
+        if len(words) != len(form.usage.split()):
+            raise Wrong("another number of words", form.usage)
         if not form.is_repeated and words[0] in self.seen:
-            raise Wrong("a second line of this word")
+            raise Wrong("a second line of this word", words[0])
         self.seen.add(words[0])
         form.take(self, *words[1:])
 
     def boot(self, cpus, threads, frames):
-        self.described.cpus = number(cpus, MOST_CPUS)
-        self.described.threads = number(threads, MOST_THREADS)
-        self.described.frames = number(frames, MOST_FRAMES)
+        self.described.cpus = number(cpus, "cpus")
+        self.described.threads = number(threads, "threads")
+        self.described.frames = number(frames, "frames")
 
     def image(self, name, file):
         if name in self.images:
-            raise Wrong("a second image of this name")
+            raise Wrong("a second image of this name", name)
         if len(self.images) == MOST_IMAGES:
-            raise Wrong("too many images")
+            raise Wrong("too many images", f"at most {MOST_IMAGES}")
+        path = self.folder / file
         try:
-            text = (self.folder / file).read_bytes().decode("latin-1")
-        except OSError:
-            raise Wrong("an image that can't be read") from None
+            text = path.read_bytes().decode("latin-1")
+        except OSError as error:
+            raise Wrong("an image that can't be read", f"{path}: {error.strerror}") from None
         if not text:
-            raise Wrong("an image that can't be read")
-        self.images[name] = digits_of(re.split("[\r\n]", text)[0])
+            raise Wrong("an image that can't be read", f"{path} is empty")
+        self.images[name] = digits_of(re.split("[\r\n]", text)[0], path)
 
     def ta(self, uuid, image):
         applications = self.described.applications
         if len(applications) == MOST_APPLICATIONS:
-            raise Wrong("too many applications")
+            raise Wrong("too many applications", f"at most {MOST_APPLICATIONS}")
         if not UUID.fullmatch(uuid):
-            raise Wrong("a UUID that isn't of its form")
+            raise Wrong("a UUID that isn't of its form", uuid)
         if uuid.lower() in applications:
-            raise Wrong("a second application of this UUID")
+            raise Wrong("a second application of this UUID", uuid)
         digits = self.images.get(image[1:]) if image[0] == "$" else image
         if digits is None:
-            raise Wrong("a name of no image")
-        applications[uuid.lower()] = digits_of(digits)
+            raise Wrong("a name of no image", image)
+        applications[uuid.lower()] = digits_of(digits, image)
 
     def key(self, digits):
-        if len(digits) != 64 or not HEXADECIMAL.fullmatch(digits):
+        if not is_key(digits):
             raise Wrong("a key that isn't 64 digits")
         self.described.key = digits
 
@@ -110,17 +118,17 @@ class Reading:
 
     def files(self, folder):
         if not can_hold_files(self.folder / folder):
-            raise Wrong("a folder that can't be made")
+            raise Wrong("a folder that can't be made", self.folder / folder)
         self.described.files = self.folder / folder
 
     def clock(self, kind):
         self.described.is_virtual = one_of(kind, "real", "virtual", "a clock that is neither real nor virtual") == "virtual"
 
     def steps(self, count):
-        self.described.steps = number(count, MOST_STEPS)
+        self.described.steps = number(count, "steps")
 
     def limit(self, milliseconds):
-        self.described.limit = number(milliseconds, MOST_LIMIT)
+        self.described.limit = number(milliseconds, "limit")
 
     def history(self, kept):
         self.described.has_history = one_of(kept, "on", "off", "a history that is neither on nor off") == "on"
@@ -128,32 +136,51 @@ class Reading:
 
 @dataclasses.dataclass
 class Form:
-    """A line: how many words it has, whether it may be repeated, and what takes it."""
+    """A line: its form, whether it may be repeated, and what takes it."""
 
-    count: int
+    usage: str
     is_repeated: bool
     take: object
 
 
 FORMS = {
-    "boot": Form(4, False, Reading.boot),
-    "image": Form(3, True, Reading.image),
-    "ta": Form(3, True, Reading.ta),
-    "key": Form(2, False, Reading.key),
-    "program": Form(2, False, Reading.program),
-    "files": Form(2, False, Reading.files),
-    "clock": Form(2, False, Reading.clock),
-    "steps": Form(2, False, Reading.steps),
-    "limit": Form(2, False, Reading.limit),
-    "history": Form(2, False, Reading.history),
+    "boot": Form("boot CPUS THREADS FRAMES", False, Reading.boot),
+    "image": Form("image NAME FILE", True, Reading.image),
+    "ta": Form("ta UUID IMAGE", True, Reading.ta),
+    "key": Form("key DIGITS", False, Reading.key),
+    "program": Form("program FILE", False, Reading.program),
+    "files": Form("files FOLDER", False, Reading.files),
+    "clock": Form("clock real|virtual", False, Reading.clock),
+    "steps": Form("steps N", False, Reading.steps),
+    "limit": Form("limit MILLISECONDS", False, Reading.limit),
+    "history": Form("history on|off", False, Reading.history),
 }
 
 
-def number(word, most):
-    """A number in decimal, from 1 to the most."""
-    if not re.fullmatch("[0-9]+", word) or not 1 <= int(word) <= most:
-        raise Wrong("a number that isn't in its limits")
+def number(word, setting):
+    """The number of a setting in decimal."""
+    if not re.fullmatch("[0-9]+", word) or not 1 <= int(word) <= MOST[setting]:
+        raise Wrong("a number that isn't in its limits", f"{word} isn't one from 1 to {MOST[setting]}")
     return int(word)
+
+
+def refuse_setting(name: str, value: object) -> None:
+    """BadWords at a setting of a Description that there isn't, or whose value isn't of its kind, but for applications."""
+    names = [field.name for field in dataclasses.fields(Description)]
+    if name not in names:
+        raise BadWords(f"{name} is no setting of a core: they are {', '.join(names)}")
+    if name in MOST and (type(value) is not int or not 1 <= value <= MOST[name]):
+        raise BadWords(f"{name}={value!r} isn't a number from 1 to {MOST[name]}")
+    if name in SWITCHES and not isinstance(value, bool):
+        raise BadWords(f"{name}={value!r} is neither True nor False")
+    if name in PATHS and not isinstance(value, (str, os.PathLike)):
+        raise BadWords(f"{name}={value!r} is no path")
+    if name == "key" and not is_key(value):
+        raise BadWords(f"key={value!r} isn't 64 hexadecimal digits")
+
+
+def is_key(digits: object) -> bool:
+    return isinstance(digits, str) and len(digits) == 64 and HEXADECIMAL.fullmatch(digits) is not None
 
 
 def is_open_folder(path):
@@ -174,13 +201,13 @@ def can_hold_files(path):
 
 def one_of(word, one, other, cause):
     if word not in (one, other):
-        raise Wrong(cause)
+        raise Wrong(cause, word)
     return word
 
 
-def digits_of(digits):
+def digits_of(digits, where):
     if not HEXADECIMAL.fullmatch(digits):
-        raise Wrong("an image that isn't hexadecimal digits")
+        raise Wrong("an image that isn't hexadecimal digits", f"{where!s:.40}")
     return digits
 
 

@@ -14,7 +14,7 @@ import re
 import struct
 
 from tulgexar import formats, places, program
-from tulgexar.words import BadWords, octets, run, text_of
+from tulgexar.words import BadWords, run, text_of
 
 Image = collections.namedtuple("Image", "flags pages entries code")
 Instruction = collections.namedtuple("Instruction", "op d a b imm")
@@ -117,15 +117,18 @@ def instruction_text(instruction):
 
 def digits_of(name):
     """The bytes of an image's digits, in a file or on standard input."""
-    return digits_in(text_of(name))
+    return digits_in(text_of(name), name)
 
 
-def digits_in(text):
-    """The bytes of an image's digits in a text."""
-    digits = "".join(text.split())
+def digits_in(text, name):
+    """The bytes of an image's digits in the text of a file."""
+    digits, where = "".join(text.split()), "standard input" if name == "-" else name
     if not re.fullmatch("[0-9a-fA-F]+", digits):
-        raise BadWords(f"an image's hexadecimal digits are wanted, and not {digits[:20] or 'nothing'}: `optee_run asm` makes them of a text")
-    return octets(digits)
+        came = text.strip().partition("\n")[0][:40]
+        raise BadWords(f"{where} is no image: hexadecimal digits are wanted, as `optee_run asm` makes them of a text, and not {came or 'nothing'}")
+    if len(digits) % 2:
+        raise BadWords(f"{where} is no image: {len(digits)} hexadecimal digits aren't an even number")
+    return bytes.fromhex(digits)
 
 
 def main(words):

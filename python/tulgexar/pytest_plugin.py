@@ -3,9 +3,10 @@
 Fixtures:
     core    a core.Core, booted as the test's marker `boot` says; it ends with the test
     cores   makes such cores, for a test that needs several, or a new one for each example of hypothesis: `with cores() as core:`
-The marker has the path of a boot description, beside the test's file, or what core.booted takes, and besides `watch=True`, by which exits
-are watched: `@pytest.mark.boot("boot.txt")`, `@pytest.mark.boot(threads=3, applications={UUID: "add.hex"})`. What a call of `cores` is given
-stands in its place.
+The marker has the path of a boot description, beside the test's file, or what core.booted takes, or both, where the settings stand in the
+place of those of the description; and besides `watch=True`, by which exits are watched: `@pytest.mark.boot("boot.txt")`,
+`@pytest.mark.boot(threads=3, applications={UUID: "add.hex"})`, `@pytest.mark.boot("boot.txt", threads=2)`. What a call of `cores` is given
+stands in its place. A test whose core can't be booted so fails with a line that says why.
 The program is --core-program FILE, that of the description, TULGEXAR_LIVE of the environment, or, in a clone, what `rt run` has built.
 
 Of a test that fails stand in --core-kept FOLDER (failed-cores), in a folder of the test's name: `core.log`, what was said, and what it
@@ -21,11 +22,12 @@ from typing import Any
 import pytest
 
 from tulgexar import chart, description, live, plays, story
-from tulgexar.core import Core, booted
+from tulgexar.core import Core, booted, changed
 from tulgexar.words import BadWords
 
 MOST_DRAWN = 400  # calls in a picture
 SHOWN = 24  # last lines of a log, in the report
+NO_CORE = (BadWords, description.Fault, live.Over, live.NoConversation, live.Refused)
 NO_PICTURE = (plays.Mismatch, ValueError, IndexError, KeyError)
 
 
@@ -47,22 +49,32 @@ class Cores:
     def __call__(self, boot: str | description.Description | None = None, **settings: Any) -> Core:
         """A core that is booted as is said, or else as the test's marker says."""
         marker = self.item.get_closest_marker("boot") if boot is None and not settings else None
-        if marker:
-            boot, settings = (*marker.args, None)[0], dict(marker.kwargs)
-        watch = bool(settings.pop("watch", False))
-        core = Kept(self, self.described(boot, settings), self.config.getoption("core_program"), watch)
-        self.open.append(core)
-        return core
+        try:
+            core = self.made(path_of(marker), dict(marker.kwargs)) if marker else self.made(boot, settings)
+        except NO_CORE as wrong:
+            why = str(wrong)
+        else:
+            self.open.append(core)
+            return core
+        pytest.fail(f"{self.item.nodeid}: no core is booted: {why}", pytrace=False)
+
+    def made(self, boot: Any, settings: dict[str, Any]) -> Core:
+        """A core that is booted by a description, by settings, or by both."""
+        watch = settings.pop("watch", False)
+        if not isinstance(watch, bool):
+            raise BadWords(f"watch={watch!r} is neither True nor False")
+        return Kept(self, self.described(boot, settings), self.config.getoption("core_program"), watch)
 
     def described(self, boot: str | description.Description | None, settings: dict[str, Any]) -> description.Description:
         """What a core is booted with."""
         folder = self.item.path.parent
-        try:
-            if boot is None:
-                return booted(folder, **settings)
-            return description.read(folder / boot) if isinstance(boot, (str, pathlib.Path)) else boot
-        except (description.Fault, BadWords, TypeError) as wrong:
-            raise pytest.UsageError(f"{self.item.nodeid}: {wrong}") from wrong
+        if boot is None:
+            described = booted()
+        else:
+            described = description.read(folder / boot) if isinstance(boot, (str, pathlib.Path)) else boot
+        if not isinstance(described, description.Description):
+            raise BadWords(f"{boot!r} is no path of a boot description, and none itself")
+        return changed(described, folder, **settings)
 
     def forget(self, core: Core) -> None:
         """A test has closed a core."""
@@ -92,6 +104,13 @@ class Cores:
             yield f"{name} ({folder / name}.log)", "\n".join(lines[-SHOWN:])
 
 
+def path_of(marker: pytest.Mark) -> Any:
+    """What a marker names without a setting's name: the path of a boot description, or nothing."""
+    if len(marker.args) > 1:
+        raise BadWords(f"the marker boot takes one path, and settings by their names: {marker.args[1]!r} is neither")
+    return marker.args[0] if marker.args else None
+
+
 class Kept(Core):
     """A core of a test."""
 
@@ -105,7 +124,7 @@ class Kept(Core):
             self.cores.forget(self)
         status = super().close()
         if status:
-            raise live.Over(status)
+            raise live.Over(status, self.file)
         return status
 
 

@@ -93,7 +93,7 @@ class Shown:
             self.digits, self.lines = image.encoded(made.image), [line for _, line in made.lines]
             self.source = self.source if self.source.places else assembler.Source(made, pathlib.Path(name).name)
         else:
-            self.digits = image.digits_in(text)
+            self.digits = image.digits_in(text, name)
 
     def instruction(self, place, one):
         """The text of the instruction at a place."""

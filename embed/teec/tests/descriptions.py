@@ -1,4 +1,5 @@
-"""The module for Python tells wrong descriptions as the library for C does, those of wrong.txt, and boots a core by a right one.
+"""The module for Python tells wrong descriptions as the library for C does, those of wrong.txt, and behind a cause which word or file it is
+of; and boots a core by a right one.
 
 It runs in the folder above. With TULGEXAR_LIVE it boots that program."""
 
@@ -38,7 +39,7 @@ def main():
         for line, cause, text in blocks():
             wanted = f"{path}:{line}: {cause}" if line else f"{path}: {cause}"
             said, checks = told(path, text), checks + 1
-            if said != wanted:
+            if said != wanted and not said.startswith(f"{wanted}: "):
                 faults += 1
                 print(f"said   {said}\nwanted {wanted}")
     described = description.read(TESTS.parent / "hosts/boot.txt")
