@@ -2,8 +2,9 @@
 """Installs the package of python/, as its page has it, and tries it there: its commands, a bench, the examples, and cores that are wrong.
 
 All is done in a folder of its own, in an environment that /usr/bin/python3 makes, and without a network. It needs Debian's packages that
-python/README.md names. The untrusted world of the examples has to find each core of examples/wrong_core.py, to shrink what shows it, and what was said has
-to be kept. The program is what `rt run` has built in crates/optee_live, or FILE.
+python/README.md names. The untrusted world of the examples has to find each core of examples/wrong_core.py, to shrink what shows it, and what
+was said has to be kept; and a test whose core can't be booted has a line that says why. The program is what `rt run` has built in
+crates/optee_live, or FILE.
 Status: 0 where all is as wanted, 1 where something isn't, 2 at other words, or where a package is missing.
 usage: package_test.py [live=FILE]
 """
@@ -23,7 +24,7 @@ from tulgexar import program
 from tulgexar.words import BadWords, run
 
 PYTHON = "/usr/bin/python3"
-STANDS = "packaged.stand_for("  # in a tool that is the package's
+STANDS = "\npackaged.stand_for("  # in a tool that is the package's
 PATIENCE = 1200  # seconds
 NEEDED = ("venv", "setuptools", "wheel", "pytest", "xdist", "hypothesis")
 WORLD = "examples/test_untrusted_world.py::test_untrusted_world[8]"
@@ -35,7 +36,30 @@ with core.Core(core.booted(applications={ADD: "../examples/applications/add.hex"
 """
 TOLD = "('SUCCESS', 'TRUSTED_APP', 1) [(12, 0)] 1\n"
 
+# Tests whose cores can't be booted, each with what is said of it, and one that has a setting in the place of its description's.
+UNBOOTED = """
+import pytest
+ADD = "11111111-2222-3333-4444-555555555555"
+
+@pytest.mark.boot("examples/boot.txt", threads=3)
+def test_settings_in_the_place_of_a_file(core):
+    assert len(core.state().slots) == 3 and core.call(f"open {ADD}").session == 1
+"""
+WRONG_MARKERS = {
+    '"examples/boot.txt", 3': "the marker boot takes one path, and settings by their names: 3 is neither",
+    "thread=2": "thread is no setting of a core: they are cpus, threads, frames, ",
+    "threads=0": "threads=0 isn't a number from 1 to 16",
+    "frames='4'": "frames='4' isn't a number from 1 to 1024",
+    "watch=1": "watch=1 is neither True nor False",
+    "3": "3 is no path of a boot description, and none itself",
+    "applications={'1111': 'add.hex'}": "1111 is no UUID: 8-4-4-4-12 hexadecimal digits",
+    "applications={ADD: 'nowhere.hex'}": "nowhere.hex: No such file or directory",
+    "applications={ADD: b'OT'}": "bad image",
+    "'nowhere.txt'": "nowhere.txt: No such file or directory",
+}
+
 # Of each wrong core what comes and what is wanted, and with how many steps of the world at most that is shown; the least are 3, 4 and 1.
+BY_ITSELF = "result"
 WRONG = {"resume": ("'OK' == 'ERESUME'", 5), "limit": ("'OK' == 'ETHREAD_LIMIT'", 6), "result": (r"\(\d+, 0\) == \(\d+, 0\)", 3)}
 
 
@@ -49,10 +73,10 @@ class Bench:
         self.bin = folder / "bench/bin"
         self.settings = {name: value for name, value in os.environ.items() if name != "PYTHONPATH"} | {"TULGEXAR_LIVE": str(live)}
 
-    def run(self, *words, text=""):
-        """The status of a command, and what it has told."""
+    def run(self, *words, text="", **settings):
+        """The status of a command, by variables of the environment besides, and what it has told."""
         given = {"input": text, "text": True, "encoding": "latin-1", "stdout": subprocess.PIPE, "stderr": subprocess.STDOUT}
-        done = subprocess.run([str(word) for word in words], cwd=self.folder, env=self.settings, timeout=PATIENCE, check=False, **given)
+        done = subprocess.run([str(word) for word in words], cwd=self.folder, env=self.settings | settings, timeout=PATIENCE, check=False, **given)
         return done.returncode, done.stdout
 
     def install(self):
@@ -67,11 +91,13 @@ class Bench:
         shutil.rmtree(self.folder / "tulgexar")  # what runs from here on is what was installed
         return None
 
-    def pytest(self, *words):
-        return self.run(self.bin / "python", "-m", "pytest", "-p", "no:cacheprovider", *words)
+    def pytest(self, *words, **settings):
+        return self.run(self.bin / "python", "-m", "pytest", "-p", "no:cacheprovider", *words, **settings)
 
     def wrong_core(self, mistake):
-        """The path of a program whose core makes a mistake."""
+        """The path of a program whose core makes a mistake: the example itself, or where time counts, one that starts it sooner."""
+        if mistake == BY_ITSELF:
+            return self.folder / "examples/wrong_core.py"
         path = self.folder / f"wrong_{mistake}"
         path.write_text(f'#!/bin/sh\nexec {PYTHON} -S {self.folder}/examples/wrong_core.py {mistake} "{self.live}"\n')
         path.chmod(0o700)
@@ -98,11 +124,27 @@ def check_examples(bench, comparison):
     comparison.same("what is kept of them", (bench.folder / "failed-cores").exists(), False)
 
 
+def check_unbooted(bench, comparison):
+    """Of a test whose core can't be booted the report has one line that says why, and no traceback; settings stand in the place of a file's."""
+    tests = [f"\n@pytest.mark.boot({marker})\ndef test_{number}(core):\n    pass\n" for number, marker in enumerate(WRONG_MARKERS)]
+    (bench.folder / "test_unbooted.py").write_text(UNBOOTED + "".join(tests))
+    status, told = bench.pytest("-q", "-p", "no:xdist", "test_unbooted.py")
+    totals = f"1 passed, {len(WRONG_MARKERS)} errors"
+    comparison.same("unbooted", (status, totals in told, "Traceback" in told, "During handling" in told), (1, True, False, False))
+    for number, why in enumerate(WRONG_MARKERS.values()):
+        lines = [line for line in told.splitlines() if line.startswith(f"test_unbooted.py::test_{number}: no core is booted: ")]
+        comparison.same(f"unbooted: {why}", (len(lines), [why in line for line in lines]), (1, [True]))
+    for path in ("/bin/true", "/bin/cat"):
+        status, told = bench.pytest("-q", "test_unbooted.py", "-k", "place", "--core-program", path)
+        name = pathlib.Path(path).resolve().name
+        comparison.same(f"unbooted: {path}", (status, bool(re.search(f"no core is booted: .*/{name} (has|doesn't)", told))), (1, True))
+
+
 def check_wrong_cores(bench, comparison):
     """The untrusted world over wrong cores."""
     for mistake, (told_wrong, most) in WRONG.items():
         kept = bench.folder / f"kept_{mistake}"
-        status, told = bench.pytest("-q", "--core-program", bench.wrong_core(mistake), "--core-kept", kept, WORLD)
+        status, told = bench.pytest("-q", "--core-program", bench.wrong_core(mistake), "--core-kept", kept, WORLD, WRONG_CORE=mistake)
         steps = [step for step in re.findall(r"state\.(\w+)\(", told) if step not in ("begin", "teardown")]
         comparison.same(f"a wrong core, {mistake}", (status, bool(re.search(told_wrong, told))), (1, True))
         comparison.same(f"a wrong core, {mistake}: at most {most} of {steps}", 0 < len(steps) <= most, True)
@@ -132,10 +174,12 @@ def main(words):
     comparison = Comparison()
     with tempfile.TemporaryDirectory() as folder:
         bench = Bench(pathlib.Path(folder), live)
+        before = sorted(bench.folder.iterdir())
         told = bench.install()
         comparison.same("pip install", told, None)
+        comparison.same("what pip leaves", sorted(bench.folder.iterdir()), [path for path in before if path.name != "tulgexar"])
         if told is None:
-            for check in (check_commands, check_examples, check_wrong_cores):
+            for check in (check_commands, check_examples, check_unbooted, check_wrong_cores):
                 check(bench, comparison)
     print(f"{comparison.compared} compared, {comparison.differing} differ")
     return 1 if comparison.differing else 0

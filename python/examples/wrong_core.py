@@ -6,9 +6,11 @@ Mistakes:
     resume    a resume of thread 1 for another client is answered OK, not ERESUME
     limit     a call for which no thread is free is answered OK, not ETHREAD_LIMIT
     result    an invoke in session 2 has its sum and 1
-usage: wrong_core.py MISTAKE PROGRAM
+Without words the mistake is the one that WRONG_CORE names, and the program that of TULGEXAR_LIVE: so it stands for a program by itself.
+usage: wrong_core.py [MISTAKE PROGRAM]
 """
 
+import os
 import subprocess
 import sys
 
@@ -77,6 +79,7 @@ def main(mistake, program):
 MISTAKES = {"resume": resume, "limit": limit, "result": result}
 
 if __name__ == "__main__":
-    if len(sys.argv) != 3 or sys.argv[1] not in MISTAKES:
-        sys.exit(__doc__.splitlines()[-1])
-    sys.exit(main(*sys.argv[1:]))
+    words = sys.argv[1:] or [os.environ.get("WRONG_CORE", ""), os.environ.get("TULGEXAR_LIVE", "")]
+    if len(words) != 2 or words[0] not in MISTAKES or not words[1]:
+        sys.exit(f"no mistake of {', '.join(MISTAKES)} and no program: {' '.join(words)}\n{__doc__.splitlines()[-1]}")
+    sys.exit(main(*words))
