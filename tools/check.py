@@ -45,6 +45,7 @@ from tulgexar import (
     program,
     story,
     supplicant,
+    wanted_lines,
 )
 from tulgexar.words import BadWords, run
 
@@ -505,8 +506,8 @@ def calls_of(script):
     for line in script.splitlines():
         if line.split(" ")[0] in plays.CLIENT_CALLS:
             found.append((line, None))
-        elif line.startswith(bench_test.MARK):
-            found[-1] = found[-1][0], bench_test.in_digits(line[len(bench_test.MARK) :].strip())
+        elif line.startswith(wanted_lines.MARK):
+            found[-1] = found[-1][0], wanted_lines.in_digits(line[len(wanted_lines.MARK) :].strip())
     return found
 
 
@@ -525,7 +526,7 @@ def check_clients(comparison):
                 _, failures = bench_test.play(path, "client", Printer(other))
                 comparison.same(f"bench_test.py at another line {line}", failures != [], True)
         _, failures = bench_test.play(path, "client", Printer(output, 7))
-        comparison.same("bench_test.py at status 7", [failure.got[0][:27] for failure in failures], ["printer ended with status 7"])
+        comparison.same("bench_test.py at status 7", [failure.got[0][:31] for failure in failures], ["printer has ended with status 7"])
     for script, (output, status, wanted) in expected.CLIENT_TESTS.items():
         given = told_of("x.client", script, Printer(output, status))
         comparison.same(f"bench_test.py at {script}", given, wanted)
@@ -554,14 +555,14 @@ def check_runner(comparison):
     comparison.same("bench_test.py: the calls", len(calls), count)
     for number, ((text, _), line) in enumerate(zip(calls, played.output.splitlines())):
         note = plays.client_call(0, text.split(" "), collections.deque([line]))[1]
-        printed = bench_test.Printed(number, text, line, note, lambda other: None)
+        printed = wanted_lines.Printed(number, text, line, note, lambda other: None)
         words = line.split(" ")
         other = " ".join([*words[:2], "ffff0000", *words[3:]])
-        comparison.same(f"bench_test.py at line {number}", bench_test.compared(line, printed), None)
-        comparison.same(f"bench_test.py at the front of line {number}", bench_test.compared(f"{words[0]} ..", printed), None)
-        said = bench_test.compared(other, printed)
+        comparison.same(f"bench_test.py at line {number}", wanted_lines.compared(line, printed), None)
+        comparison.same(f"bench_test.py at the front of line {number}", wanted_lines.compared(f"{words[0]} ..", printed), None)
+        said = wanted_lines.compared(other, printed)
         comparison.same(f"bench_test.py at another result, {number}", said and (said.place, said.differs[:8]), (number, "result: "))
-        said = bench_test.compared("= nothing", printed)
+        said = wanted_lines.compared("= nothing", printed)
         comparison.same(f"bench_test.py at another note, {number}", said and said.got, [line, f"= {note}"])
     with tempfile.TemporaryDirectory() as folder:
         comparison.same("bench_test.py at no test", tool("bench_test.py", known, folder)[0], bench_test.NO_CASE)
@@ -713,9 +714,9 @@ def check_conversations(comparison):
     files = supplicant.Files()
     for words, wanted in expected.FILES:
         comparison.same(f"supplicant.py: {words}", file_call(files, *words), wanted)
-    for line, wanted in expected.PROMPTED.items():
+    for line, (status, printed, said) in expected.PROMPTED.items():
         given = tool("live.py", f"program={FOLDER / 'known_live.py'}", "script", text=f"boot 1 1 1\n{line}\n")
-        comparison.same(f"live.py at {line}", given[:2], (0, f"> boot 1 1 1\n< ok\n{wanted}"))
+        comparison.same(f"live.py at {line}", given, (status, f"> boot 1 1 1\n< ok\n{printed}", said))
 
 
 class Zeros:

@@ -415,8 +415,7 @@ CLIENT_TESTS = {
         3,
         [
             f"x.client:1: open s {FIRST}",
-            "    got    line 1: bad trace, place: no boot line before, a second one, or a ta or mem line behind a line of another kind: "
-            f"open s {FIRST}",
+            "    got    bad trace, place: no boot line before, a second one, or a ta or mem line behind a line of another kind",
         ],
     ),
 }
@@ -550,12 +549,15 @@ FILES = [
     (("close", 1), None),
     (("open", b"b"), 1),
 ]
-# Lines of a prompt that takes scripts, and what it prints of each.
+# Lines of an input that is a script's, and of each the status, what is printed, and what is said.
 PROMPTED = {
-    "name N": "  the name N stands for no words\n",
-    "smc 0 1 CALLS": "  CALLS is no function\n",
-    "smc 0 1 CALLS_UID": "> smc 0 1 bf00ff01 0 0 0 0 0 0 0\n"
-    "< ret 0 384fb3e0 e7f811e3 af630002 a5d5c51b 00000000 00000000 00000000 00000000\n< ok\n",
+    "name N": (1, "", "live.py: line 2: name N: the name N stands for no words\n"),
+    "smc 0 1 CALLS": (1, "", "live.py: line 2: smc 0 1 CALLS: CALLS is no function\n"),
+    "smc 0 1 CALLS_UID": (
+        0,
+        "> smc 0 1 bf00ff01 0 0 0 0 0 0 0\n< ret 0 384fb3e0 e7f811e3 af630002 a5d5c51b 00000000 00000000 00000000 00000000\n< ok\n",
+        "",
+    ),
 }
 BAD_SCRIPTS = [
     "name",

@@ -19,7 +19,7 @@ import sys
 import tempfile
 
 import mistakes
-import packaged  # noqa: F401  (where tulgexar is)
+import packaged
 import shipped
 from tulgexar import program
 from tulgexar.words import BadWords, number, run
@@ -61,7 +61,7 @@ class Bench:
 
     def poor(self, mistake):
         """How a mistake is answered poorly, or None, and what was told."""
-        settings = {**os.environ, "PYTHONPATH": str(FOLDER), "PYTHONDONTWRITEBYTECODE": "1"}
+        settings = {**os.environ, "PYTHONPATH": f"{FOLDER}{os.pathsep}{packaged.FOLDER}", "PYTHONDONTWRITEBYTECODE": "1"}
         streams = {"stdin": subprocess.PIPE, "stdout": subprocess.PIPE, "stderr": subprocess.STDOUT}
         process = subprocess.Popen(["sh", "-c", self.command(mistake)], cwd=self.folder, env=settings, start_new_session=True, **streams)
         try:

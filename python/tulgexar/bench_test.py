@@ -9,16 +9,21 @@ What a file is, the end of its name says. A folder's files of these names are ru
                      tables have them, and by the map beside the image's file the function, file and line of the source
     .lines           a conversation, as live.py takes it with `script`, and where a line `#! serve` stands, with `serve`
     .journal         the bytes of a journal; `audit` has to find it legal
-A comment `#= LINE` behind an item says what the item has to print, `#= = NOTE` what annotate.py has to say of that. `..` at the end leaves
-out what follows. a0 of a line `ret`, and result and origin of a client's line, may be names of docs/formats.md. Of a call that is served it
-is the last answer; a conversation's line that is answered otherwise than by `ok` has to be wanted so, as `#= bad KIND`:
+A file in which no line is one of a script alone (a name, `$NAME`, a function or an operand by its name) is run as it is, byte by byte, whatever
+its name, but for .script. Another comment that begins with `#!` or `# =` is refused: it looks like one of a test.
+A comment `#= LINE` behind an item says what the item has to print, `#= = NOTE` what annotate.py has to say of that, and `#= : NOTE` what it
+has to say of a call as it enters; each may stand once behind an item. `..` at the end leaves out what follows. a0 of a line `ret`, and result
+and origin of a client's line, may be names of docs/formats.md. Of a call that is served it is the last answer; a conversation's line that is
+answered otherwise than by `ok` has to be wanted so, as `#= bad KIND`:
     smc 0 1000 CALL_WITH_ARG argument=40000000
     #= ret 0 OK ..
+    #= : CALL_WITH_ARG of client 0, thread 0: ..
     show 0 40000014 8
     #= = ret SUCCESS; origin TRUSTED_APP
 Each file has a line, and below it stand its failures: file and number of the line, what was wanted and what came, both as annotate.py
-explains them, and what differs by its name. At the end is a total. --junit and --json write the same for other programs. The programs are
-those that `rt run` has built in crates/optee_run and crates/optee_live, or FILE. -j N runs so many files at once.
+explains them, and what differs by its name. At the end is a total. --junit and --json write the same for other programs, also where the core's
+program ends amid a file: the others are run all the same. The programs are FILE, those that TULGEXAR_RUN and, for conversations, TULGEXAR_LIVE
+name, or what `rt run` has built in crates/optee_run and crates/optee_live. -j N runs so many files at once.
 
 Status: 0 where all is as wanted, 1 where something isn't, 2 at other words, 5 where no line was compared.
 usage: bench_test.py [program=FILE] [live=FILE] [-j N] [--junit FILE] [--json FILE] FILE|FOLDER..
@@ -34,18 +39,13 @@ import sys
 import time
 import xml.etree.ElementTree
 
-from tulgexar import arg, client, formats, lift, live, places, plays, program
-from tulgexar.words import BadWords, number, plain, run, text_of, write_text
+from tulgexar import client, formats, lift, live, places, plays, program, wanted_lines
+from tulgexar.wanted_lines import Failure, Printed
+from tulgexar.words import BadWords, behind, lines_of, number, plain, print_no_more, run, text_of, write_text
 
 WORDS = {".trace": "run", ".script": "run", ".threads": "threads", ".signals": "notify", ".client": "client", ".lines": None, ".journal": "audit"}
-MARK, SERVE, REST, NOTE = "#=", "#! serve", "..", "= "
-ANSWERS = {name: code for table in (formats.CODES, formats.RPCS) for code, name in table.items()}
-ORIGINS = {name: origin for origin, name in formats.ORIGINS.items()}
-OF_TRACES = {*formats.LINES, "signal"} - {*plays.HEADER}
 NO_CASE = 5
-
-# What differs at a line of a file: its number and text, what was wanted and what came, each as lines, and what differs by name.
-Failure = collections.namedtuple("Failure", "place text wanted got differs", defaults=[(), (), ""])
+OPTIONS = {"-j": "a number of files to run at once", "--junit": "a file to write", "--json": "a file to write"}
 
 # A file that was run: how many lines were compared, its failures, and how long it took.
 Case = collections.namedtuple("Case", "path compared failures seconds")
@@ -53,162 +53,76 @@ Case = collections.namedtuple("Case", "path compared failures seconds")
 # Programs that run traces and hold conversations.
 Programs = collections.namedtuple("Programs", "runner talker")
 
-# A line that was printed, and what it says; with `explained`, which says what another line there would say.
-Printed = collections.namedtuple("Printed", "place text line note explained")
-
-
-def compared(wanted, printed):
-    """The failure of a printed line that is another than the wanted one, or None."""
-    is_note = wanted.startswith(NOTE)
-    came = NOTE + (printed.note or "") if is_note else printed.line
-    try:
-        full = wanted if is_note else in_digits(wanted)
-    except BadWords as error:
-        return Failure(printed.place, printed.text, [wanted, str(error)], [printed.line, *told(printed.note)])
-    if full == came or full.endswith(REST) and came.startswith(full.removesuffix(REST)):
-        return None
-    got = [printed.line, *told(printed.note)]
-    explained = [] if is_note or full.endswith(REST) else told(printed.explained(full))
-    return Failure(printed.place, printed.text, [wanted, *explained], got, "" if is_note else differing(full, printed.line))
-
-
-def told(note):
-    return [NOTE + note] if note else []
-
-
-def in_digits(line):
-    """A wanted line with its names as digits."""
-    words = line.split(" ")
-    tables = {"ret": [(2, ANSWERS, "answer")]}.get(words[0], [])
-    if words[0] in plays.CLIENT_CALLS:
-        tables = [(2, arg.RESULTS, "result"), (3, ORIGINS, "origin")]
-    for place, table, what in tables:
-        if len(words) > place and not words[place].endswith(REST):
-            words[place] = digits_of(words[place], table, what)
-    return " ".join(words)
-
-
-def digits_of(word, table, what):
-    """The eight digits of a word, which are its own, or those of a name in a table."""
-    if word not in table and number_of(word) is None:
-        raise BadWords(f"{word} is no {what} of docs/formats.md, and no eight digits")
-    return f"{table[word]:08x}" if word in table else word
-
-
-def number_of(digits):
-    """The number of eight lower-case hexadecimal digits, or None."""
-    return int(digits, 16) if re.fullmatch("[0-9a-f]{8}", digits) else None
-
-
-def differing(wanted, came):
-    """What differs between two lines, by name."""
-    pairs = list(zip(wanted.removesuffix(REST).split(), came.split()))
-    named = [f"{name_of(pairs[0][1], place)}: {valued(pairs[0][1], place, old, new)}" for place, (old, new) in enumerate(pairs) if old != new]
-    more = len(came.split()) - len(wanted.split())
-    if more and not wanted.endswith(REST):
-        named.append(f"{abs(more)} word{'s' if abs(more) > 1 else ''} {'more' if more > 0 else 'fewer'} came")
-    return "; ".join(named)
-
-
-def name_of(word, place):
-    """The name of a word in a line of this first word."""
-    names = {"mem": ["line", "processor", "address", "bytes"]}
-    names["ret"] = ["line", "processor", *(f"a{k}" for k in range(8)), "word at", "place of the entry", "place of the exit"]
-    if word in plays.CLIENT_CALLS:
-        names[word] = ["call", "session", "result", "origin"]
-    return [*names.get(word, []), *(f"parameter {k}" if word in plays.CLIENT_CALLS else f"word {k}" for k in range(9))][place]
-
-
-def valued(word, place, wanted, came):
-    """Two values, by their names where they have one."""
-    if word == "mem" and place == 3:
-        at = next((at for at in range(0, len(came), 2) if came[at : at + 2] != wanted[at : at + 2]), len(came))
-        return f"from byte {at // 2} on {came[at : at + 16] or 'nothing'}, not {wanted[at : at + 16] or 'nothing'}"
-    tables = {("ret", 2): dict(map(reversed, ANSWERS.items()))}
-    tables |= {(call, 2): formats.RESULTS for call in plays.CLIENT_CALLS} | {(call, 3): formats.ORIGINS for call in plays.CLIENT_CALLS}
-    return ", not ".join(named_value(tables.get((word, place), {}), value) for value in (came, wanted))
-
-
-def named_value(table, word):
-    value = number_of(word)
-    return f"{word} ({table[value]})" if value in table else word
-
-
-def wanted_lines(printed, lines):
-    """Compares what stands in lines `#=` with what was printed before each: how many were compared, and the failures. `printed` has what
-    each line of a file has printed, by its number, or None where it isn't known."""
-    count, failures, last = 0, [], None
-    for place, line in lines:
-        if line.startswith(MARK):
-            count += 1
-            if last is None:
-                failures.append(Failure(place, line, [line], ["nothing: it stands behind no line that prints"]))
-            elif failure := compared(line[len(MARK) :].strip(), last):
-                failures.append(failure)
-            last = None
-        elif line and not line.startswith("#"):
-            last = printed.get(place)
-    return count, failures
+# What is run of a file: its text, and of each of its lines the number of the file's line that makes it.
+Trace = collections.namedtuple("Trace", "text lines")
 
 
 def play(path, word, runner):
-    """Runs a trace or a script."""
+    """Runs a trace or a script: how many lines were compared, and the failures."""
     text = text_of(path)
-    lines = lift.placed(text, pathlib.Path(path).parent)
-    other = item_of_trace(lines) if word == "client" else None
-    if other:
-        return 0, [other]
-    trace = "".join(f"{line}\n" for _, line in lines)
-    done = runner.run([word], trace)
-    refused = refusal_of(done, lines)
+    lines = lines_in(text)
+    failures = wanted_lines.misspelt(lines, is_conversation=False)
+    if failures:
+        return 0, failures
+    trace = trace_of(text, pathlib.Path(path))
+    item = plays.item_of_trace(trace.lines) if word == "client" else None
+    if item:
+        place, line, what = item
+        return 0, [Failure(place, line, got=[what])]
+    done = runner.run([word], trace.text)
+    refused = refusal_of(done, trace)
     if refused:
-        place = int(re.match(r"line (\d+)", refused)[1])
-        return 0, [Failure(place, line_at(text, place), got=[refused])]
+        return 0, [refused]
     if done.status:
-        return 0, [Failure(0, "", got=[f"{runner.file} ended with status {done.status}: is it the program of crates/optee_run?"])]
+        return 0, [Failure(0, "", got=[f"{runner.file} {program.how_ended(done.status)}: is it the program of crates/optee_run?"])]
     try:
-        printed = printed_by(text, lines, done.output)
+        printed = printed_by(trace, lines, done.output)
     except plays.Mismatch as mismatch:
         return 0, [Failure(0, "", got=[f"{runner.file} isn't the program of crates/optee_run: {mismatch}"])]
-    count, failures = wanted_lines(printed, enumerate(text.splitlines(), 1))
-    return count, with_panics(failures, path, text, lines, done) if word == "client" else failures
+    found = wanted_lines.wanted_in(lines)
+    failures = wanted_lines.differing_lines(printed, found)
+    return len(found), with_panics(failures, path, text, trace, done) if word == "client" else failures
 
 
-def item_of_trace(lines):
-    """The failure of a client's script in which an item of a trace stands, or None."""
-    for place, line in lines:
-        word = line.split(" ")[0]
-        if word in OF_TRACES:
-            return Failure(place, line, got=[f"{word} is an item of a trace, and no call of a client"])
-    return None
+def lines_in(text):
+    """The lines of a file, for who reads them."""
+    return [line.removesuffix("\r") for line in lines_of(text)]
 
 
-def refusal_of(done, lines):
-    """What the program says of a trace that it refuses, by the number of its line in the reader's own file; or None."""
+def line_at(lines, place):
+    """A line by its number, or nothing."""
+    return lines[place - 1] if 0 < place <= len(lines) else ""
+
+
+def trace_of(text, path):
+    """What is run of a file: itself, or what lift.py makes of it where it is a script."""
+    if path.suffix != ".script" and not lift.is_script(text):
+        return Trace(text, list(enumerate(lines_of(text), 1)))
+    lines = lift.placed(text, path.parent)
+    return Trace("".join(f"{line}\n" for _, line in lines), lines)
+
+
+def refusal_of(done, trace):
+    """The failure of a trace that the program refuses, at the line of the reader's own file; or None."""
     bad = re.fullmatch(r"bad trace (\d+) (\w+)\n", done.output) if done.status == 3 else None
     if bad is None:
         return None
     number, kind = int(bad[1]), bad[2]
-    place, line = lines[number - 1] if 0 < number <= len(lines) else (0, "")
-    return f"line {place}: bad trace, {kind}: {formats.FAULTS.get(kind, 'no known kind')}" + (f": {line:.80}" if line else "")
+    place, line = trace.lines[number - 1] if 0 < number <= len(trace.lines) else (0, "")
+    hint = "; registers may be left out in a file NAME.script" if kind == "count" and line.startswith(("smc ", "enter ")) else ""
+    return Failure(place, f"{line:.80}", got=[f"bad trace, {kind}: {formats.FAULTS.get(kind, 'no known kind')}{hint}"])
 
 
-def printed_by(text, lines, output):
-    """What each line of a file has printed, by its number. `lines` are those of its trace, each behind the number of the file's."""
-    trace = "".join(f"{line}\n" for _, line in lines)
+def printed_by(trace, lines, output):
+    """What has come of each line of a file, by its number."""
     found, at = {}, 0
-    for entry in plays.lay_out(trace, output):
-        if entry.printed and entry.number:
-            place = lines[entry.number - 1][0]
-            found[place] = Printed(place, line_at(text, place), entry.printed, entry.note, Explained(trace, output, entry.number, at))
+    for entry in plays.lay_out(trace.text, output):
+        if entry.number and (entry.printed or entry.asked):
+            place = trace.lines[entry.number - 1][0]
+            explained = Explained(trace.text, output, entry.number, at)
+            found[place] = Printed(place, line_at(lines, place), entry.printed, entry.note, explained, entry.asked)
         at += bool(entry.printed) or entry.text.startswith("cpu ")
     return found
-
-
-def line_at(text, place):
-    """A line of a text by its number."""
-    lines = text.splitlines()
-    return lines[place - 1] if 0 < place <= len(lines) else ""
 
 
 class Explained:
@@ -227,19 +141,23 @@ class Explained:
         return next(entry.note for entry in entries if entry.number == self.number)
 
 
-def with_panics(failures, path, text, lines, done):
+def with_panics(failures, path, text, trace, done):
     """The failures of a client's script, with the panics in which calls have ended."""
     if not failures:
         return failures
     maps = places.maps_of(text, pathlib.Path(path).parent)
-    panics = client.panics_of("".join(f"{line}\n" for _, line in lines), done.output.splitlines(), maps)
-    calls = [place for place, line in lines if line.split(" ")[0] in plays.CLIENT_CALLS]
+    panics = client.panics_of(trace.text, done.output.splitlines(), maps)
+    calls = [place for place, line in trace.lines if line.split(" ")[0] in plays.CLIENT_CALLS]
     by_place = {calls[number]: panic for number, panic in panics.items()}
     return [failure._replace(got=[*failure.got, by_place[failure.place]]) if failure.place in by_place else failure for failure in failures]
 
 
+# A line that was sent in a conversation, its answer, what that says, what is said of its call, and what was known before it.
+Turn = collections.namedtuple("Turn", "line answer note asked before")
+
+
 class Talk(live.Prompt):
-    """A conversation whose lines come from a file."""
+    """A conversation whose lines come from a file; `said` has what was sent for its last line."""
 
     def __init__(self, file, options):
         self.said = []
@@ -247,53 +165,70 @@ class Talk(live.Prompt):
 
     def heard(self, line, answer):
         before = copy.deepcopy(self.play)
-        self.said.append((line, answer, self.note(line, answer), before))
+        note = self.note(line, answer)
+        self.said.append(Turn(line, answer, note, self.asked, before))
 
 
 def converse(path, talker):
-    """Holds a conversation."""
+    """Holds a conversation: how many lines were compared, and the failures."""
     text = text_of(path)
-    talk = Talk(talker, ["script", *(["serve"] if SERVE in text.splitlines() else [])])
+    lines = lines_in(text)
+    failures = wanted_lines.misspelt(lines, is_conversation=True)
+    if failures:
+        return 0, failures
+    talk = Talk(talker, [*(["script"] if lift.is_script(text) else []), *(["serve"] if wanted_lines.SERVE in lines else [])])
     talk.script.folder = pathlib.Path(path).parent
-    printed, failures = {}, []
+    found = wanted_lines.wanted_in(lines)
     try:
-        for place, line in enumerate(text.splitlines(), 1):
-            if not line or line.startswith("#"):
-                continue
-            talk.said.clear()
-            try:
-                talk.take(line)
-            except BadWords as error:
-                failures.append(Failure(place, line, got=[str(error)]))
-                continue
-            if talk.said:
-                printed[place] = of_talk(talk.said, place, line)
-            is_wanted = line_at(text, place + 1).startswith(MARK)
-            if talk.said and talk.said[-1][1].ending != "ok" and not is_wanted:
-                failures.append(Failure(place, line, ["ok"], [talk.said[-1][1].ending, *told(talk.said[-1][2])]))
+        printed, failures, end = held(talk, text, found)
     finally:
         talk.talk.close()
-    count, others = wanted_lines(printed, enumerate(text.splitlines(), 1))
-    return count, sorted(failures + others, key=lambda failure: failure.place)
+    found = [one for one in found if one.place < end]
+    failures += wanted_lines.differing_lines(printed, found)
+    return len(found), sorted(failures, key=lambda failure: failure.place)
+
+
+def held(talk, text, found):
+    """Takes the lines of a conversation: what has come of each by its number, the failures beside the wanted lines, and the number of the line
+    at which the program has ended, or the one behind all."""
+    printed, failures, place = {}, [], 0
+    for place, line in enumerate(lines_of(text), 1):
+        if not line or line.startswith("#"):
+            continue
+        talk.said.clear()
+        try:
+            talk.take(line.removesuffix("\r") if "script" in talk.options else line)
+        except BadWords as error:
+            failures.append(Failure(place, line, got=[str(error)]))
+            continue
+        except (live.Over, live.NoConversation, live.Refused) as error:
+            return printed, [*failures, Failure(place, line, got=[str(error)])], place
+        if talk.said:
+            printed[place] = of_talk(talk.said, place, line)
+            last = talk.said[-1]
+            if last.answer.ending != "ok" and not any(one.of == place and one.kind != wanted_lines.ASKED for one in found):
+                failures.append(Failure(place, line, ["ok"], [last.answer.ending, *wanted_lines.told(last.note)]))
+    return printed, failures, place + 1
 
 
 def of_talk(said, place, text):
-    """What a line was answered: the last answer of the call that it has made, or how it was refused."""
-    sent, answer, note, before = next((part for part in reversed(said) if is_of(part, said[0])), said[-1])
+    """What has come of a line: the last answer of the call that it has made, or how it was refused."""
+    last = next((turn for turn in reversed(said) if is_of(turn, said[0])), said[-1])
+    answer = last.answer
     line = answer.lines[0] if answer.lines and answer.ending == "ok" else answer.ending
 
     def explained(other):
         try:
-            return copy.deepcopy(before).entry(place, sent, collections.deque([other])).note
+            return copy.deepcopy(last.before).entry(place, last.line, collections.deque([other])).note
         except plays.Mismatch:
             return None
 
-    return Printed(place, text, line, note, explained)
+    return Printed(place, text, line, last.note, explained, said[0].asked)
 
 
-def is_of(part, first):
+def is_of(turn, first):
     """Whether a line is a call's, on the processor of the first one, or no call's."""
-    words, own = part[0].split(" "), first[0].split(" ")
+    words, own = turn.line.split(" "), first.line.split(" ")
     return own[0] not in ("smc", "leave") or words[0] in ("smc", "leave") and words[1:2] == own[1:2]
 
 
@@ -314,9 +249,10 @@ def tested(path, programs, suffix=None):
             count, failures = audited(path, program.Program(programs.runner))
         else:
             count, failures = play(path, WORDS[suffix], program.Program(programs.runner))
-    except (BadWords, lift.Fault, plays.Mismatch, live.Over, live.NoConversation, live.Refused) as fault:
-        place = re.match(r"line (\d+)", str(fault))
-        count, failures = 0, [Failure(int(place[1]) if place else 0, "", got=[str(fault)])]
+    except lift.Fault as fault:
+        count, failures = 0, [Failure(fault.place, fault.line, got=[fault.cause])]
+    except (BadWords, plays.Mismatch, live.Over, live.NoConversation) as fault:
+        count, failures = 0, [Failure(0, "", got=[str(fault)])]
     return Case(path, count, failures, time.monotonic() - begun)
 
 
@@ -359,7 +295,10 @@ def paths_of(names):
     for name in names:
         path = pathlib.Path(name)
         if path.is_dir():
-            yield from (str(file) for file in sorted(path.iterdir()) if file.suffix in WORDS and not is_output(file))
+            files = [str(file) for file in sorted(path.iterdir()) if file.suffix in WORDS and not is_output(file)]
+            if not files:
+                print(f"{name} has no test: no name there ends with one of {' '.join(WORDS)}", file=sys.stderr)
+            yield from files
         elif not path.is_file():
             raise BadWords(f"{name}: No such file or directory")
         elif path.suffix not in WORDS:
@@ -371,17 +310,6 @@ def paths_of(names):
 def is_output(path):
     """Whether a file is what `threads` has printed of the trace beside it."""
     return path.suffix == ".threads" and path.with_suffix(".trace").is_file()
-
-
-def taken(words, name, default=None):
-    """The word behind an option, which is taken away with it, or the default."""
-    if name not in words:
-        return default
-    at = words.index(name)
-    if at + 1 == len(words):
-        raise BadWords(f"nothing stands behind {name}")
-    del words[at]
-    return words.pop(at)
 
 
 def cases_of(paths, programs, jobs):
@@ -396,36 +324,48 @@ def cases_of(paths, programs, jobs):
 def main(words):
     words = list(words)
     programs = Programs(program.taken_from(words), program.taken_from(words, "live"))
-    jobs, junit, as_text = number(taken(words, "-j", "1")), taken(words, "--junit"), taken(words, "--json")
-    if not words or not jobs:
-        raise BadWords()
+    options = {option: behind(words, option, what) for option, what in OPTIONS.items()}
+    jobs = number(options["-j"] or "1")
+    if not jobs:
+        raise BadWords("-j 0: at least one file is run at once")
+    if not words:
+        eaten = [f"; {word} stands behind {option}, which takes {OPTIONS[option]}" for option, word in options.items() if word]
+        raise BadWords(f"no FILE or FOLDER is left to run{''.join(eaten[-1:])}")
     paths = list(paths_of(words))
     needed = {"optee_live" if pathlib.Path(path).suffix == ".lines" else "optee_run" for path in paths}
     for name, file in zip(("optee_run", "optee_live"), programs):
         if name in needed:
             program.found(name, file)
-    for path in filter(None, (junit, as_text)):
+    written = [(options[option], made) for option, made in (("--junit", as_junit), ("--json", as_json)) if options[option]]
+    for path, _ in written:
         write_text(path, "")  # so that one that can't be written is told before all is run
-    cases = list(told_cases(cases_of(paths, programs, jobs)))
-    for path, made in ((junit, as_junit), (as_text, as_json)):
-        if path:
+    cases = []
+    try:
+        cases.extend(told_cases(cases_of(paths, programs, jobs)))
+    finally:
+        for path, made in written:
             write_text(path, made(cases))
     return status_of(cases)
 
 
 def told_cases(cases):
-    """The cases, each told as soon as it was run."""
+    """The cases, each told as soon as it was run; where nobody reads that, the others are run all the same."""
     for case in cases:
-        print("\n".join(lines_on(case)), flush=True)
+        try:
+            print("\n".join(lines_on(case)), flush=True)
+        except BrokenPipeError:
+            print_no_more()
         yield case
 
 
 def status_of(cases):
     """Tells the total. The status."""
     count, failed = sum(case.compared for case in cases), sum(bool(case.failures) for case in cases)
-    print(f"{len(cases)} cases, {failed} failed, {count} lines compared")
+    unwanted = sum(not case.compared and not case.failures for case in cases)
+    print(f"{len(cases)} cases, {failed} failed, {count} lines compared{f'; {unwanted} without a wanted line' if unwanted else ''}")
     if not count and not failed:
-        print("no line was compared: a comment `#= LINE` behind an item says what it has to print", file=sys.stderr)
+        if cases:
+            print("no line was compared: a comment `#= LINE` behind an item says what it has to print", file=sys.stderr)
         return NO_CASE
     return 1 if failed else 0
 

@@ -14,7 +14,7 @@ call aren't drawn.
 are their threads, and a place in the history is a microsecond.
 
 Without OUTPUT the program plays the trace, and lines `show` are put behind its calls, so that each request and result has its
-name. The program is what `rt run` has built in crates/optee_run, or FILE.
+name. The program is FILE, the one that TULGEXAR_RUN names, or what `rt run` has built in crates/optee_run.
 Status: 0, 1 where the output isn't that of the trace, or nothing can be drawn; 2 at other words.
 usage: chart.py [program=FILE] [--perfetto FILE] TRACE [OUTPUT]
 """
@@ -26,7 +26,7 @@ import re
 import sys
 
 from tulgexar import calls, formats, plays, program, story
-from tulgexar.words import BadWords, plain, run, text_of, write_text
+from tulgexar.words import BadWords, behind, plain, run, text_of, write_text
 
 LEFT, INSIDE, OUTSIDE, BAND = 76, 96, 16, 980
 LANE, SLOT, TITLE, GAP = 74, 22, 16, 22
@@ -276,20 +276,11 @@ def named(kind, group, row, name):
     return {"name": kind, "ph": "M", "pid": group, "tid": row, "args": {"name": name}}
 
 
-def file_behind(words, option):
-    """The file that stands behind an option, both taken away, or None."""
-    if option not in words:
-        return None
-    at = words.index(option)
-    if at + 1 == len(words):
-        raise BadWords(f"a file is wanted behind {option}")
-    del words[at]
-    return words.pop(at)
-
-
 def main(words):
     words = list(words)
-    file, viewed = program.taken_from(words), file_behind(words, "--perfetto")
+    file, viewed = program.taken_from(words), behind(words, "--perfetto")
+    if not words and viewed:
+        raise BadWords(f"no TRACE is left: {viewed} stands behind --perfetto, which takes the file to write")
     if len(words) not in (1, 2):
         raise BadWords()
     trace = text_of(words[0])

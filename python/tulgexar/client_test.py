@@ -5,8 +5,8 @@ file; `-` is standard input. FOLDER has several, whose names end with `.client`.
 has to print; result and origin may be names of docs/formats.md:
     invoke s 0 vio:5:7
     #= invoke s SUCCESS TRUSTED_APP v:0000000c:00000000
-A call without such a line may print anything. What is printed and the status are those of bench_test.py. The program is what `rt run` has
-built in crates/optee_run, or FILE.
+A call without such a line may print anything. What is printed and the status are those of bench_test.py. The program is
+FILE, the one that TULGEXAR_RUN names, or what `rt run` has built in crates/optee_run.
 usage: client_test.py [program=FILE] SCRIPT|FOLDER..
 """
 

@@ -5,8 +5,8 @@ by a conversation, as "Script of a client" of docs/formats.md has them, and the 
 annotate.py explains what `run` has printed for it. Comments say which call of the script the lines behind them are of, and what `client` prints
 of it; each RPC return has its number, which is the K of `cancel:K`.
 steps=N grants N steps to each entry in the place of 10,000, so with 1 each step of an application is an SMC. A call that is interrupted
-returns once more, so a K names another return then.
-The program is what `rt run` has built in crates/optee_live, or FILE.
+returns once more, so a K names another return then. A cancel before a return that has not come is told on standard error.
+The program is FILE, the one that TULGEXAR_LIVE names, or what `rt run` has built in crates/optee_live.
 Status: 0; 1 where a line of the script isn't of its form, or the core refuses an entry; 2 at other words.
 usage: client_trace.py [program=FILE] [steps=N] SCRIPT
 """
@@ -17,10 +17,10 @@ import re
 import struct
 import sys
 
-from tulgexar import arg, client, formats, lift, live, machine, plays, program
+from tulgexar import arg, calls, client, formats, lift, live, machine, plays, program
 from tulgexar.words import BadWords, number, plain, run, text_of, uuid
 
-ARGUMENT, CANCEL, BUFFER, COOKIE = 0x4000_0000, 0x4000_1000, 0x4001_0000, 1
+ARGUMENT, CANCEL, BUFFER, COOKIE = formats.RAM_START, 0x4000_1000, 0x4001_0000, 1
 MEMORY, MEMORY_BYTES = 0x4010_0000, 0x1_0000  # of parameter 0, and apart from the next
 MOST_CANCEL, MOST_CALLS, MOST_PARAMETERS = 1000, 512, 4
 CANCEL_ID, METAS = 1, 2  # META parameters, which an open has before its own
@@ -72,21 +72,22 @@ class Client:
         self.sessions, self.smcs = {}, 0
 
     def call(self, made):
-        """Makes a call to its end."""
+        """Makes a call to its end: how many RPC returns it had."""
         self.lay(made.parameters)
         argument = arg.argument(self.words(made))
         answered = self.enter(ARGUMENT, argument)
         self.supplicant.begins(0, [formats.CALL_WITH_ARG, 0, ARGUMENT])
-        self.serve(made, answered)
+        returns = self.serve(made, answered)
         argument = self.talk.read(0, ARGUMENT, len(argument))
-        fields = dict(zip(formats.HEAD, struct.unpack_from("<8I", argument)))
+        fields = calls.head_fields(argument)
         if made.item == "open":
             self.sessions[made.name] = fields["session"] if fields["ret"] == 0 else 0
         outputs = self.outputs(made, argument) if fields["ret_origin"] == client.APPLICATION else []
         self.talk.ask(" ".join([f"# {made.item} {made.name} {fields['ret']:08x} {fields['ret_origin']:08x}", *outputs]))
+        return returns
 
     def serve(self, made, answered):
-        """Answers the RPC returns of a call up to its end, and cancels it before the one that it names."""
+        """Answers the RPC returns of a call up to its end, and cancels it before the one that it names: how many there were."""
         returns = 0
         while answered[0] in formats.RPCS:
             returns += 1
@@ -97,6 +98,7 @@ class Client:
             resumed, _ = self.supplicant.serves(0, answered)
             answered = self.smc(resumed)
         self.supplicant.serves(0, answered)
+        return returns
 
     def lay(self, parameters):
         """Writes the bytes of parameters."""
@@ -151,7 +153,10 @@ def words_of(k, parameter):
 
 def read(lines):
     """The lines of a script behind their numbers, each as a text, or as the Call that it makes; the lines that are wanted aren't kept."""
-    found, names = [], set()
+    item, found, names = plays.item_of_trace(lines), [], set()
+    if item:
+        place, line, what = item
+        raise lift.Fault(f"{what}: `run` plays a trace as it is", place, line)
     for place, line in lines:
         words = line.split(" ")
         try:
@@ -162,7 +167,7 @@ def read(lines):
                 refuse_other(words)
                 found.append((place, line, None))
         except BadWords as error:
-            raise lift.Fault(f"line {place}: {error}") from error
+            raise lift.Fault(str(error), place, line) from error
     if sum(call is not None for *_, call in found) > MOST_CALLS:
         raise lift.Fault(f"a script has at most {MOST_CALLS} calls")
     return found
@@ -184,17 +189,20 @@ def refuse_other(words):
 
 
 def play(lines, talk, steps=client.GRANT):
-    """Says the lines of a script, each behind its number, and makes its calls."""
-    played = Client(talk, steps)
+    """Says the lines of a script, each behind its number, and makes its calls; what is to be said of cancels that have not come."""
+    played, missed = Client(talk, steps), []
     for place, line, call in read(lines):
         try:
             talk.ask(f"# {line}" if call else line)
-            if call:
-                played.call(call)
+            returns = played.call(call) if call else 0
+            if call and call.cancel and returns < call.cancel:
+                missed.append(f"line {place}: cancel:{call.cancel} has not come: {call.item} {call.name} had {returns} RPC returns")
         except BadWords as error:
-            raise lift.Fault(f"line {place}: {error}") from error
+            raise lift.Fault(str(error), place, line) from error
         except live.Refused as refused:
-            raise lift.Fault(f"line {place}: {refused.ending}: {live.fault_of(refused.line, refused.ending.partition(' ')[2])}") from refused
+            cause = live.fault_of(refused.line, refused.ending.partition(" ")[2])
+            raise lift.Fault(f"{refused.ending}: {cause}", place, line) from refused
+    return missed
 
 
 def shown(line, answer):
@@ -206,13 +214,16 @@ def shown(line, answer):
 def main(words):
     words = list(words)
     file, steps = program.taken_from(words), number(program.taken_from(words, "steps") or str(client.GRANT))
-    if len(words) != 1 or not 1 <= steps <= live.MOST_STEPS:
-        raise BadWords()
+    if not 1 <= steps <= live.MOST_STEPS:
+        raise BadWords(f"steps={steps} isn't from 1 to {live.MOST_STEPS}")
+    if len(words) != 1:
+        raise BadWords("one SCRIPT is wanted; - is standard input" if not words else f"{words[1]} is one word too many")
     talker, text = program.found("optee_live", file), text_of(words[0])
     try:
         lines = lift.placed(text, pathlib.Path(words[0]).parent)
         with live.Conversation(talker, heard=shown) as talk:
-            play(lines, talk, steps)
+            for missed in play(lines, talk, steps):
+                print(f"client_trace.py: {missed}", file=sys.stderr)
     except (lift.Fault, live.Over, live.NoConversation) as fault:
         print(f"client_trace.py: {plain(str(fault))}", file=sys.stderr)
         return 1

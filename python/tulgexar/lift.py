@@ -22,17 +22,22 @@ import re
 import struct
 import sys
 
-from tulgexar import arg, formats
-from tulgexar.words import BadWords, hexadecimal, number, octets, plain, run, text_of
+from tulgexar import arg, formats, image
+from tulgexar.words import BadWords, hexadecimal, lines_of, number, plain, run, text_of
 
 FUNCTIONS = {name: function for function, name in (formats.FUNCTIONS | formats.NOTIFY_FUNCTIONS).items()}
 ITEMS = [*dict.fromkeys([*formats.LINES, "signal", "open", "invoke", "close"])]
+NAMING = ("name", "argument", "image", "reply")  # the words of lines that no trace has
 WIDE = {"argument": 1, "buffer": 1, "cookie": 4}  # in two registers, the upper half first
 OPERANDS = WIDE | {"thread": 3, "client": 7} | {f"a{i}": i for i in range(1, 8)}
 
 
 class Fault(Exception):
-    """A line of a script that isn't of its form."""
+    """A line of a script that isn't of its form: its number, or 0 of the whole, and its text, and the cause."""
+
+    def __init__(self, cause, place=0, line=""):
+        super().__init__(f"line {place}: {cause}" if place else cause)
+        self.cause, self.place, self.line = cause, place, line
 
 
 class Script:
@@ -76,7 +81,7 @@ class Script:
         return self.name(name, arg.argument(words).hex())
 
     def image(self, name, file, word="", flags=None):
-        data = octets("".join(text_of(self.folder / file).split()))
+        data = image.digits_of(self.folder / file)
         if word not in ("", "flags"):
             raise BadWords(f"image: {word} isn't flags")
         if flags:
@@ -115,7 +120,7 @@ def call(cpu, steps, function, *operands):
     a0 = f"{FUNCTIONS[function]:x}" if function in FUNCTIONS else function
     if not re.fullmatch("[0-9a-fA-F]{1,8}|=[0-7]", a0):
         raise BadWords(f"{function} is no function")
-    if len(operands) == 7 and not any(operand.partition("=")[0] in OPERANDS for operand in operands):
+    if len(operands) == 7 and not any(is_named(operand) for operand in operands):
         return [cpu, steps, a0, *operands]
     registers = [a0] + ["0"] * 7
     for operand in operands:
@@ -131,6 +136,26 @@ def call(cpu, steps, function, *operands):
     return [cpu, steps, *registers]
 
 
+def is_of_script(line):
+    """Whether a line is one of a script alone, and none of a trace or of a client's script, which stand for themselves."""
+    item, *words = line.split() or [""]
+    if line.startswith("#") or not item:
+        return False
+    if item in NAMING or item == "write" and words[2:3] == ["text"] or re.search(r"\$\w", line):
+        return True
+    return item in ("smc", "enter") and ("_" in "".join(words[2:3]) or any(is_named(word) for word in words[3:]))
+
+
+def is_named(word):
+    """Whether a word of a call names an operand; `=K` is a register of an answer."""
+    return "=" in word[1:]
+
+
+def is_script(text):
+    """Whether a text has a line that is one of a script alone."""
+    return any(is_of_script(line) for line in lines_of(text))
+
+
 def refuse_unknown(line):
     """Refuses a line whose first word is none of a trace, with or without signals, or of a client's script."""
     word = line.split(" ")[0]
@@ -142,12 +167,12 @@ def placed(text, folder):
     """The lines of the trace that a script makes, each behind the number of the script's line that makes it."""
     script = Script(folder)
     lines = []
-    for place, line in enumerate(text.splitlines(), 1):
+    for place, line in enumerate(lines_of(text), 1):
         try:
-            lines += [(place, made) for made in script.lift(line)]
+            lines += [(place, made) for made in script.lift(line.removesuffix("\r"))]
             refuse_unknown(lines[-1][1] if lines else "")
         except BadWords as error:
-            raise Fault(f"line {place}: {error}") from error
+            raise Fault(str(error), place, line) from error
     return lines
 
 

@@ -4,7 +4,7 @@ import collections
 import pathlib
 import re
 
-from tulgexar import calls, formats, messages
+from tulgexar import calls, formats, lift, messages
 from tulgexar.words import text_of
 
 # A line of the trace; what it printed, and what that says in words; the name of an answer; the result of a call, as
@@ -14,7 +14,7 @@ Entry = collections.namedtuple("Entry", "number text printed note answer result 
 
 HEADER = ("boot", "ta", "mem", "key")
 CLIENT_CALLS = ("open", "invoke", "close")  # the calls of a client's script
-SCRIPTS = ("name", "argument", "image", "reply")  # the words of a script for lift.py
+ITEMS = {*formats.LINES, "signal"} - {*HEADER}  # of a trace, which no client's script has
 OUTPUTS = re.compile("(ret|mem|bad trace|cpu|open|invoke|close) ")  # what a play prints begins so
 RET = r"ret {}((?: [0-9a-f]{{8}}){{8}})"
 
@@ -54,10 +54,19 @@ def lay_out(trace, output):
     return laid(Play(), lines, collections.deque(output.splitlines()))
 
 
+def item_of_trace(lines):
+    """The first of lines, each behind its number, that is an item of a trace, where a client's script has none: its number, the line and what
+    is to be said of it; or None."""
+    for place, line in lines:
+        word = line.split(" ")[0]
+        if word in ITEMS:
+            return place, line, f"{word} is an item of a trace, and no call of a client"
+    return None
+
+
 def refuse_script(place, line):
     """A Mismatch where a line is one of a script for lift.py."""
-    word, *words = line.split(" ")
-    if word in SCRIPTS or word in ("smc", "enter") and words[2:3] and words[2] in formats.FUNCTIONS.values():
+    if lift.is_of_script(line):
         raise Mismatch(f"line {place} is one of a script: lift.py makes a trace of it")
 
 
