@@ -1,13 +1,16 @@
 -- What contracts see of a port over a reader and a writer.
 use Rattle.std.specs.Prelude.{ℕ, List, Option}
 use Rattle.std.specs.Io.KnownBytes.{prepend_known}
+use Rattle.line_port.specs.declared.faults.Faults.{Faults}
 use Rattle.line_port.specs.declared.finish.Finish.{Finish}
 
--- the reader, what was read of it but not heard, the writer, and how the port has come to its end, where it has
+-- the reader, what was read of it but not heard, the writer, how many reads and how many writes have failed, and how the port has
+-- come to its end, where it has
 pub record Edge (R W : Type 0) : Type 0 where
   pub reader : R
   pub pending : List ℕ
   pub writer : W
+  pub faults : Faults
   pub finish : Option Finish
 
 -- of a reader that tells what it has left, given by `remaining`: what is pending, and then that

@@ -1,5 +1,6 @@
 -- The definitions of this crate at small values.
 use Rattle.std.specs.Prelude.{◌≡◌, ℕ, List, [], ◌∷◌, ◌++◌, codes, length, false, Some, None}
+use Rattle.line_port.specs.Faults.{faults_behind, no_faults}
 use Rattle.line_port.specs.Finish.{finish_of_heard, finish_of_said}
 use Rattle.line_port.specs.Gathering.{IsGathered, MOST, TakesLine}
 use Rattle.line_port.specs.History.{Adds, Hears, Line, Long, Says, heard_events}
@@ -23,6 +24,13 @@ pub record Examples : Type 0 where
   pub over : finish_of_heard heard.End ≡ Some finish.Over
   pub unread : finish_of_heard heard.Failed ≡ Some finish.ReadFault
   pub unsaid : finish_of_said said.Failed ≡ Some finish.WriteFault
+  -- what is counted by it
+  pub read_fault : faults_behind (finish_of_heard heard.Failed) no_faults ≡ record { reads = 1; writes = 0 }
+  pub write_fault : faults_behind (finish_of_said said.Failed) (record { reads = 1; writes = 6 }) ≡ record { reads = 1; writes = 7 }
+  pub at_its_end : faults_behind (Some finish.ReadFault) (record { reads = 18446744073709551615; writes = 0 })
+      ≡ record { reads = 18446744073709551615; writes = 0 }
+  pub no_fault : faults_behind (finish_of_heard heard.End) no_faults ≡ no_faults
+  pub no_memory : faults_behind (finish_of_said said.Memory) no_faults ≡ no_faults
   -- what a reader has left before and after
   pub whole : TakesLine heard.Line (codes "ab") (Some (codes "ab" ++ 10 ∷ codes "c")) (Some (codes "c"))
   pub empty : TakesLine heard.Line [] (Some (10 ∷ [])) (Some [])

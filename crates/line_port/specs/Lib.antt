@@ -1,5 +1,6 @@
 pub mod Edge
 pub mod Examples
+pub mod Faults
 pub mod Finish
 pub mod Gathering
 pub mod History

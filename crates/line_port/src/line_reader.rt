@@ -1,9 +1,10 @@
 //! Lines of a reader, each heard as soon as it has come.
 
-ghost use Rattle.std.specs.Prelude.{◌≡◌, ◌≢◌, ◌<◌, ◌≤◌, [], length, take, true, false, IfOk, OnErr};
+ghost use Rattle.std.specs.Prelude.{◌≡◌, ◌≢◌, ◌<◌, ◌≤◌, [], length, take, true, false, Err, IfOk, OnErr};
 ghost use Rattle.std.specs.Io.KnownBytes.{Consumes, IsAtEnd, Keeps};
 ghost use Rattle.line_port.specs.Gathering.{IsTaken, TakesLine, TakesPart};
 ghost use Rattle.line_port.specs.Pending.{left};
+ghost use Rattle.ports.specs.Port.{risen};
 ghost use Rattle.text_lines.specs.Lines.{Lacks};
 
 use crate::gathering::add_part;
@@ -17,16 +18,25 @@ use text_lines::split_line;
 /// How many bytes are asked for at once.
 const CHUNK_BYTES: usize = 1 << 16;
 
+/// A read failed.
+#[derive(Clone, Copy)]
+struct ReadFailed;
+
 /// Why no part of a line was taken.
 #[derive(Clone, Copy)]
 pub(crate) enum Stop {
-    /// A read failed.
+    /// A read failed, and was counted.
     Fault,
     /// Want of memory.
     NoRoom,
 }
 
 impl From<AllocError> for Stop {
+    ghost use Rattle.std.specs.Prelude.{◌≡◌};
+    ghost use Rattle.line_port.specs.declared.line_reader.Stop.TheVariants.{NoRoom};
+
+    ghost from_gives = { λ _ stop. stop ≡ NoRoom };
+
     fn from(_refused: AllocError) -> Stop {
         Stop::NoRoom
     }
@@ -52,6 +62,8 @@ pub(crate) struct LineReader<R: Read> {
     at: usize,
     /// Where it ends.
     end: usize,
+    /// How many reads have failed. A count that has come to 2^64 - 1 stays there.
+    faults: u64,
 }
 
 impl<R: Read> Model for LineReader<R> {
@@ -60,7 +72,11 @@ impl<R: Read> Model for LineReader<R> {
 
     ghost Value = { Lines R };
 
-    ghost view = { λ s. record { reader = s.reader; pending = take (s.end - s.at) (drop s.at s.chunk.items) } };
+    ghost view = { λ s. record {
+      reader = s.reader;
+      pending = take (s.end - s.at) (drop s.at s.chunk.items);
+      faults = s.faults;
+    } };
 
     ghost invariant = { λ s. (0 < length s.chunk.items) × (s.at ≤ s.end) × (s.end ≤ length s.chunk.items) };
 }
@@ -73,7 +89,7 @@ fn buffer_of(alloc: Global, count: usize) -> Result<Vec<u8>, AllocError>
 }
 
 /// One read. It gives no bytes at the end alone. An interrupted one is tried again.
-fn read<R: Read>(reader: &mut R, buf: &mut [u8]) -> Result<usize, Stop>
+fn read<R: Read>(reader: &mut R, buf: &mut [u8]) -> Result<usize, ReadFailed>
     requires { 0 < length buf.old }
     ensures bound { IfOk result (λ n. n ≤ length buf.old) }
     ensures moved { IfOk result (λ n.
@@ -85,10 +101,10 @@ fn read<R: Read>(reader: &mut R, buf: &mut [u8]) -> Result<usize, Stop>
         match reader.read(buf) {
             Ok(count) => return Ok(count),
             Err(error) if error.kind() == ErrorKind::Interrupted => {}
-            Err(_) => return Err(Stop::Fault),
+            Err(_) => return Err(ReadFailed),
         }
     }
-    Err(Stop::Fault)
+    Err(ReadFailed)
 }
 
 /// Takes what these bytes have of a line, through the line feed that ends it. Says how many bytes were taken.
@@ -142,14 +158,22 @@ impl<R: Read> LineReader<R> {
     pub(crate) fn new(alloc: Global, reader: R) -> Result<LineReader<R>, AllocError>
     where
         R: Drop,
-        ensures { IfOk result (λ lines. lines ≡ record { reader = reader; pending = [] }) }
+        ensures { IfOk result (λ lines. lines ≡ record { reader = reader; pending = []; faults = 0 }) }
     {
         Ok(LineReader {
             reader,
             chunk: buffer_of(alloc, CHUNK_BYTES)?,
             at: 0,
             end: 0,
+            faults: 0,
         })
+    }
+
+    /// Counts a fault of reading.
+    fn count_fault(&mut self)
+        ensures { self.new ≡ record self.old { faults = risen self.old.faults } }
+    {
+        self.faults = self.faults.saturating_add(1);
     }
 
     /// Reads some bytes, where none are pending. Says whether any came.
@@ -157,11 +181,20 @@ impl<R: Read> LineReader<R> {
         requires { self.old.pending ≡ [] }
         ensures kept { Keeps (left R.remaining self.old) (left R.remaining self.new) }
         ensures end { IfOk result (λ some. some ≡ false → IsAtEnd (left R.remaining self.new)) }
+        ensures fault { result ≡ Err Stop.Fault → self.new.faults ≡ risen self.old.faults }
+        ensures stays { result ≢ Err Stop.Fault → self.new.faults ≡ self.old.faults }
     {
-        let count = read(&mut self.reader, self.chunk.as_mut_slice())?;
-        self.at = 0;
-        self.end = count;
-        Ok(count > 0)
+        match read(&mut self.reader, self.chunk.as_mut_slice()) {
+            Ok(count) => {
+                self.at = 0;
+                self.end = count;
+                Ok(count > 0)
+            }
+            Err(ReadFailed) => {
+                self.count_fault();
+                Err(Stop::Fault)
+            }
+        }
     }
 
     /// Takes what is pending of a line, through the line feed that ends it.
@@ -170,6 +203,7 @@ impl<R: Read> LineReader<R> {
             is_long.old line.old.items is_long.new line.new.items) }
         ensures whole { ¬ Lacks 10 self.old.pending → IfOk result (λ part. part ≡ Part.Last) }
         ensures reader { self.new.reader ≡ self.old.reader }
+        ensures faults { self.new.faults ≡ self.old.faults }
     {
         let (taken, part) = take_from(&self.chunk[self.at..self.end], line, is_long)?;
         self.at += taken;
@@ -182,6 +216,8 @@ impl<R: Read> LineReader<R> {
             is_long.old line.old.items is_long.new line.new.items) }
         ensures whole { ¬ Lacks 10 self.old.pending → IfOk result (λ part. part ≡ Part.Last) }
         ensures prompt { ¬ Lacks 10 self.old.pending → self.new.reader ≡ self.old.reader }
+        ensures fault { result ≡ Err Stop.Fault → self.new.faults ≡ risen self.old.faults }
+        ensures stays { result ≢ Err Stop.Fault → self.new.faults ≡ self.old.faults }
     {
         if self.at == self.end && !self.refill()? {
             return Ok(Part::None);
@@ -189,10 +225,13 @@ impl<R: Read> LineReader<R> {
         Ok(self.take_pending(line, is_long)?)
     }
 
-    /// Takes a line, whose bytes come in place of those that `line` holds.
+    /// Takes a line, whose bytes come in place of those that `line` holds. A line that comes in 2^64 - 1 parts counts as a fault of
+    /// reading.
     pub(crate) fn next_line(&mut self, line: &mut Vec<u8>) -> Heard
         ensures takes { TakesLine result line.new.items (left R.remaining self.old) (left R.remaining self.new) }
         ensures prompt { ¬ Lacks 10 self.old.pending → self.new.reader ≡ self.old.reader }
+        ensures fault { result ≡ Heard.Failed → self.new.faults ≡ risen self.old.faults }
+        ensures stays { result ≢ Heard.Failed → self.new.faults ≡ self.old.faults }
     {
         line.clear();
         let mut is_long = false;
@@ -205,6 +244,7 @@ impl<R: Read> LineReader<R> {
                 Err(Stop::NoRoom) => return Heard::Memory,
             }
         }
+        self.count_fault();
         Heard::Failed
     }
 }

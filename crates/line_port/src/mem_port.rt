@@ -1,7 +1,10 @@
-ghost use Rattle.std.specs.Prelude.{◌≡◌, ◌≢◌, ◌<◌, ◌≤◌, ◌⊎◌, [], ◌∷◌, ◌++◌, None, IfOk, OnOk, OnErr, length};
+ghost use Rattle.std.specs.Prelude.{◌≡◌, ◌≢◌, ◌<◌, ◌≤◌, ◌⊎◌, [], ◌∷◌, ◌++◌, Some, None, IfOk, OnOk, OnErr, length};
+ghost use Rattle.line_port.specs.Faults.{faults_behind, no_faults};
+ghost use Rattle.line_port.specs.Finish.{finish_of_said};
 ghost use Rattle.line_port.specs.History.{Says, heard_events};
 ghost use Rattle.line_port.specs.Kept.{events_of};
 
+use crate::faults::Faults;
 use crate::finish::Finish;
 use crate::gathering::LONGEST_LINE;
 use crate::port::{Heard, Port, Said};
@@ -70,6 +73,7 @@ pub struct MemPort<B> {
     other: B,
     log: Vec<Entry>,
     finish: Option<Finish>,
+    faults: Faults,
     /// The numbers of the calls that fail, counted from 0.
     fails: Vec<u64>,
     /// The number of the next call. One that has come to 2^64 - 1 stays there.
@@ -124,6 +128,7 @@ fn keep_said(alloc: Global, log: &mut Vec<Entry>, bytes: &[u8]) -> Result<(), Al
 fn heard_as(next: Next, count: usize) -> Heard
     ensures within { result ≡ Heard.Line → count ≤ 8388736 }
     ensures cut { result ≡ Heard.Cut → 0 < count }
+    ensures fault { result ≢ Heard.Failed }
 {
     match next {
         Next::Line | Next::Cut if count > LONGEST_LINE => Heard::Long,
@@ -139,12 +144,17 @@ impl<B: OtherSide> MemPort<B> {
     pub fn new(alloc: Global, other: B, fails: Vec<u64>) -> MemPort<B>
         ensures events { events_of result.log.items ≡ [] }
         ensures finish { result.finish ≡ None }
+        ensures faults { result.faults ≡ no_faults }
     {
         MemPort {
             alloc,
             other,
             log: Vec::new(alloc),
             finish: None,
+            faults: Faults {
+                reads: 0,
+                writes: 0,
+            },
             fails,
             calls: 0,
         }
@@ -173,15 +183,28 @@ impl<B: OtherSide> MemPort<B> {
         self.fails.iter().any(|number| *number == call)
     }
 
+    /// Fails as it hears something.
+    fn fail_hearing(&mut self) -> Heard
+        ensures answer { result ≡ Heard.Failed }
+        ensures counted { self.new ≡ record self.old { faults = faults_behind (Some Finish.ReadFault) self.old.faults } }
+    {
+        self.faults.reads = self.faults.reads.saturating_add(1);
+        Heard::Failed
+    }
+
     /// Fails as it says something, none of which is said.
     fn fail_saying(&mut self) -> Said
         ensures answer { (result ≡ Said.Failed) ⊎ (result ≡ Said.Memory) }
         ensures failed { result ≡ Said.Failed →
             events_of self.new.log.items ≡ events_of self.old.log.items ++ Says [] ∷ [] }
         ensures memory { result ≡ Said.Memory → self.new.log.items ≡ self.old.log.items }
+        ensures counted { self.new.faults ≡ faults_behind (finish_of_said result) self.old.faults }
     {
         match keep_said(self.alloc, &mut self.log, &[]) {
-            Ok(()) => Said::Failed,
+            Ok(()) => {
+                self.faults.writes = self.faults.writes.saturating_add(1);
+                Said::Failed
+            }
             Err(_) => Said::Memory,
         }
     }
@@ -192,6 +215,7 @@ impl<B: OtherSide> MemPort<B> {
         ensures done { result ≡ Said.Done →
             events_of self.new.log.items ≡ events_of self.old.log.items ++ Says bytes.now ∷ [] }
         ensures memory { result ≡ Said.Memory → self.new.log.items ≡ self.old.log.items }
+        ensures faults { self.new.faults ≡ self.old.faults }
     {
         match keep_said(self.alloc, &mut self.log, bytes) {
             Ok(()) => Said::Done,
@@ -205,6 +229,8 @@ impl<B: OtherSide> MemPort<B> {
         ensures heard { IfOk result (λ heard.
             events_of self.new.log.items ≡ events_of self.old.log.items ++ heard_events heard line.new.items) }
         ensures stays { OnErr result (self.new.log.items ≡ self.old.log.items) }
+        ensures fault { IfOk result (λ heard. heard ≢ Heard.Failed) }
+        ensures faults { self.new.faults ≡ self.old.faults }
     {
         line.clear();
         let next = self.other.next(last_said(self.log.as_slice()), line)?;
@@ -217,6 +243,8 @@ impl<B: OtherSide> MemPort<B> {
     fn hear_next(&mut self, line: &mut Vec<u8>) -> Heard
         ensures within { result ≡ Heard.Line → length line.new.items ≤ 8388736 }
         ensures heard { events_of self.new.log.items ≡ events_of self.old.log.items ++ heard_events result line.new.items }
+        ensures fault { result ≢ Heard.Failed }
+        ensures faults { self.new.faults ≡ self.old.faults }
     {
         match self.next(line) {
             Ok(heard) => heard,
@@ -233,9 +261,11 @@ impl<B: OtherSide> Port for MemPort<B> {
 
     ghost finish = { λ port. port.finish };
 
+    ghost faults = { λ port. port.faults };
+
     fn hear(&mut self, line: &mut Vec<u8>) -> Heard {
         let heard = if self.begin_call() {
-            Heard::Failed
+            self.fail_hearing()
         } else {
             self.hear_next(line)
         };

@@ -1,6 +1,8 @@
 ghost use Rattle.std.specs.Prelude.{◌≡◌, ℕ, ◌≤◌, List, [], ◌∷◌, Option, length, take};
+ghost use Rattle.line_port.specs.Faults.{faults_behind};
 ghost use Rattle.line_port.specs.Finish.{finish_of_heard, finish_of_said};
 ghost use Rattle.line_port.specs.History.{Adds, Event, Says, heard_events};
+ghost use Rattle.line_port.specs.declared.faults.Faults.{Faults};
 ghost use Rattle.line_port.specs.declared.finish.Finish.{Finish};
 
 use crate::finish::Finish;
@@ -69,13 +71,17 @@ pub trait Port {
     /// How it has come to its end, where it has.
     ghost finish: { Self → Option Finish };
 
+    /// How many of its calls have failed, each by a read or by a write that failed.
+    ghost faults: { Self → Faults };
+
     /// Hears the next line, without the line feed that ends it. What `line` holds before is let go of; where no line was
     /// heard, what it holds then is left open. Which line comes is the other side's choice, by all that was said so far.
     fn hear(&mut self, line: &mut Vec<u8>) -> Heard
         requires { finish self.old ≡ None }
         ensures heard { Adds (history self.old) (history self.new) (heard_events result line.new.items) }
         ensures within { result ≡ Heard.Line → length line.new.items ≤ 8388736 }
-        ensures finishes { finish self.new ≡ finish_of_heard result };
+        ensures finishes { finish self.new ≡ finish_of_heard result }
+        ensures faults { faults self.new ≡ faults_behind (finish_of_heard result) (faults self.old) };
 
     /// Says the bytes, so that the other side has them all before anything more is heard.
     fn say(&mut self, bytes: &[u8]) -> Said
@@ -85,5 +91,6 @@ pub trait Port {
         ensures failed { result ≡ Said.Failed →
             (n : ℕ) × Adds (history self.old) (history self.new) (Says (take n bytes.now) ∷ []) }
         ensures memory { result ≡ Said.Memory → Adds (history self.old) (history self.new) [] }
-        ensures finishes { finish self.new ≡ finish_of_said result };
+        ensures finishes { finish self.new ≡ finish_of_said result }
+        ensures faults { faults self.new ≡ faults_behind (finish_of_said result) (faults self.old) };
 }

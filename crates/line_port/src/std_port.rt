@@ -1,5 +1,6 @@
 ghost use Rattle.std.specs.Prelude.{◌≡◌, ◌≢◌, ◌≤◌, [], None, IfOk, length};
 ghost use Rattle.line_port.specs.Edge.{left_at};
+ghost use Rattle.line_port.specs.Faults.{faults_behind, no_faults};
 ghost use Rattle.line_port.specs.Finish.{finish_of_heard, finish_of_said};
 ghost use Rattle.line_port.specs.Gathering.{TakesLine};
 ghost use Rattle.line_port.specs.SayingOut.{WritesOut};
@@ -30,7 +31,13 @@ impl<R: Read, W: Write> Model for StdPort<R, W> {
 
     ghost Value = { Edge R W };
 
-    ghost view = { λ p. record { reader = p.lines.reader; pending = p.lines.pending; writer = p.sink.writer; finish = p.finish } };
+    ghost view = { λ p. record {
+      reader = p.lines.reader;
+      pending = p.lines.pending;
+      writer = p.sink.writer;
+      faults = record { reads = p.lines.faults; writes = p.sink.faults };
+      finish = p.finish;
+    } };
 }
 
 impl<R: Read, W: Write> StdPort<R, W> {
@@ -39,7 +46,8 @@ impl<R: Read, W: Write> StdPort<R, W> {
     where
         R: Drop,
         W: Drop,
-        ensures { IfOk result (λ port. port ≡ record { reader = reader; pending = []; writer = writer; finish = None }) }
+        ensures { IfOk result (λ port.
+            port ≡ record { reader = reader; pending = []; writer = writer; faults = no_faults; finish = None }) }
     {
         Ok(StdPort {
             lines: LineReader::new(alloc, reader)?,
@@ -56,10 +64,13 @@ impl<R: Read, W: Write> Port for StdPort<R, W> {
 
     ghost finish = { λ port. port.finish };
 
+    ghost faults = { λ port. port.faults };
+
     fn hear(&mut self, line: &mut Vec<u8>) -> Heard
         requires { self.old.finish ≡ None }
         ensures within { result ≡ Heard.Line → length line.new.items ≤ 8388736 }
         ensures finishes { self.new.finish ≡ finish_of_heard result }
+        ensures faults { self.new.faults ≡ faults_behind (finish_of_heard result) self.old.faults }
 
         // What is gone from a reader that tells what it has left. Nothing is read while a whole line is pending, and nothing is
         // written.
@@ -76,6 +87,7 @@ impl<R: Read, W: Write> Port for StdPort<R, W> {
         requires { self.old.finish ≡ None }
         ensures memory { result ≢ Said.Memory }
         ensures finishes { self.new.finish ≡ finish_of_said result }
+        ensures faults { self.new.faults ≡ faults_behind (finish_of_said result) self.old.faults }
 
         // What has come to a writer that tells what it holds. Nothing is read.
         ensures writes { WritesOut result (W.contents self.old.writer) (W.contents self.new.writer) bytes.now }

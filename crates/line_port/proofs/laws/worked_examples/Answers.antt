@@ -28,6 +28,11 @@ returns c = record {
   over = refl;
   unread = refl;
   unsaid = refl;
+  read_fault = refl;
+  write_fault = refl;
+  at_its_end = refl;
+  no_fault = refl;
+  no_memory = refl;
   whole = record { lacks = lacks_ab; short = lit≤ tt; consumed = refl };
   empty = record { lacks = All-nil is_other; short = lit≤ tt; consumed = refl };
   cut = record { text = codes "ab"; lacks = lacks_ab; some = lit< tt; short = lit≤ tt; consumed = refl; ended = refl };

@@ -1,5 +1,5 @@
 -- One part more, and what ends a line.
-use Rattle.std.proofs.Common.{rules}
+use Rattle.std.proofs.Common.{rules, ◌∙◌}
 use Rattle.line_port.proofs.Lines.{line-ends, line-stops, no_part-before, so_far-more}
 use Rattle.line_port.proofs.line_reader.LineReader.next_line.Goals as goal
 
@@ -20,4 +20,5 @@ loop-preserved g c = record {
       absurd (no_part-before _ _ _ (c.loop.invariant.pending holds) holds c.in-Ok-Some.ensures.whole c.in-Ok-Some.field-0-is);
   reader = λ holds.
       absurd (no_part-before _ _ _ (c.loop.invariant.pending holds) holds c.in-Ok-Some.ensures.whole c.in-Ok-Some.field-0-is);
+  faults = c.in-Ok-Some.ensures.stays (λ e. cc) ∙ c.loop.invariant.faults;
 }
