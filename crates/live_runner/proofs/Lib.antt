@@ -1,3 +1,4 @@
+pub mod Counted
 pub mod Answered
 pub mod Turned
 pub mod Talked

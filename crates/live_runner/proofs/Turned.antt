@@ -1,10 +1,12 @@
 -- A turn: what was heard, and how a port may end in it.
 use Rattle.std.proofs.Common.{◌≡◌, ℕ, inl, inr, List, [], ◌∷◌, Option, Some, None, refl, ap, subst, ◌∙◌}
 use Rattle.std.specs.Prelude.{Ok, take}
+use Rattle.line_port.specs.Faults.{faults_behind}
 use Rattle.line_port.specs.Finish.{finish_of_heard, finish_of_said}
 use Rattle.line_port.specs.History.{Adds, Event, Hears, Input, Says, heard_events}
 use Rattle.line_port.specs.History as history
 use Rattle.line_port.specs.Laws.{Adds-trans}
+use Rattle.line_port.specs.declared.faults.Faults.{Faults}
 use Rattle.line_port.specs.declared.finish.Finish.{Finish}
 use Rattle.line_port.specs.declared.finish.Finish.TheVariants as finish
 use Rattle.line_port.specs.declared.port.Heard.{Heard}
@@ -94,3 +96,12 @@ ended-saying on here what line spoken input talk said.Memory end a b c is answer
       Adds-trans a b c (Hears input ∷ []) [] (subst (Adds a b) is heard_so) (memory refl),
       subst P (some-finish finish.Memory end e) (inr (input, refl)),
     )
+
+-- ---- the faults that a turn counts
+
+pub faults-ended : (end : Option Finish) (finish : Finish) (old new : Faults) → end ≡ Some finish → new ≡ faults_behind end old
+    → new ≡ faults_behind (Some finish) old
+faults-ended end finish old new e counted = counted ∙ ap (λ (x : Option Finish). faults_behind x old) e
+
+pub faults-kept : (end : Option Finish) (old new : Faults) → end ≡ None → new ≡ faults_behind end old → new ≡ old
+faults-kept end old new e counted = counted ∙ ap (λ (x : Option Finish). faults_behind x old) e

@@ -1,12 +1,13 @@
 -- What a program of a conversation comes to.
 use Rattle.std.specs.Prelude.{◌≡◌, ◌≢◌, ◌⊎◌, ℕ, List, [], ◌∷◌, ◌++◌, codes, take, Option}
 use Rattle.line_port.specs.History.{Event}
+use Rattle.line_port.specs.declared.faults.Faults.{Faults}
 use Rattle.line_port.specs.declared.finish.Finish.{Finish}
 use Rattle.live_play.specs.Answer.{Platform}
 use Rattle.live_play.specs.Conversation.{status}
 use Rattle.live_runner.specs.Talks.{HearsNoQuestion, TalksWithQuestions, Talks}
 use Rattle.live_runner.specs.Turns.{IsEndOf}
-use Rattle.ports.specs.Port.{Appends, Rose}
+use Rattle.ports.specs.Port.{Appends, Rose, risen}
 
 -- ---- with words
 
@@ -30,3 +31,9 @@ pub record HoldsTo (on : Platform) (old new : Option (List Event)) (ended : Opti
   pub shows : TalksWithQuestions on old new finish
   pub talks : HearsNoQuestion old new → Talks on old new finish
   pub ends : IsEndOf finish ended
+
+-- 4 is answered only where the port counted a fault of reading, and 5 only where it counted one of writing; else it counted none
+pub record CountsFaults (result : ℕ) (old new : Faults) : Type 0 where
+  pub read_fault : result ≡ 4 → new ≡ record old { reads = risen old.reads }
+  pub write_fault : result ≡ 5 → new ≡ record old { writes = risen old.writes }
+  pub stays : result ≢ 4 → result ≢ 5 → new ≡ old

@@ -81,6 +81,11 @@ Turns on here old new (Err finish) talk = (rest : List Event) × Adds old new re
 abbrev pub IsEndOf : Finish → Option Finish → Type 0
 IsEndOf finish ended = (ended ≡ Some finish) ⊎ ((finish ≡ Memory) × (ended ≡ None))
 
+-- how a turn that came to this ended the conversation, where it did
+abbrev pub end_of : Result (Unit {0}) Finish → Option Finish
+end_of (Ok done) = None
+end_of (Err finish) = Some finish
+
 abbrev pub EndsAs : Result (Unit {0}) Finish → Option Finish → Type 0
 EndsAs (Ok done) ended = ended ≡ None
 EndsAs (Err finish) ended = IsEndOf finish ended

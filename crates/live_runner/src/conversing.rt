@@ -1,10 +1,11 @@
 //! A conversation to its end.
 
-ghost use Rattle.std.specs.Prelude.{◌≡◌, None};
+ghost use Rattle.std.specs.Prelude.{◌≡◌, Some, None};
+ghost use Rattle.line_port.specs.Faults.{faults_behind};
 ghost use Rattle.live_play.specs.Answer.{platform};
 ghost use Rattle.live_play.specs.Showing.{Position};
 ghost use Rattle.live_runner.specs.Talks.{HearsNoQuestion, TalksWithQuestions, Talks};
-ghost use Rattle.live_runner.specs.Turns.{EndsAs, IsEndOf, StandsIn, Turns};
+ghost use Rattle.live_runner.specs.Turns.{EndsAs, IsEndOf, StandsIn, Turns, end_of};
 ghost use Rattle.native_tas.specs.Table.{drivers, entries};
 
 use crate::talk::Talk;
@@ -26,6 +27,7 @@ fn take_turn<P: Port>(
         → Turns (platform (entries natives.now) (drivers natives.now)) here (P.history port.old) (P.history port.new) result
         talk.new }
     ensures ends { EndsAs result (P.finish port.new) }
+    ensures faults { P.faults port.new ≡ faults_behind (end_of result) (P.faults port.old) }
 {
     let heard = port.hear(&mut talk.line);
     if let Some(finish) = heard.finish() {
@@ -60,6 +62,9 @@ pub fn live<P: Port>(alloc: Global, natives: &Natives, port: &mut P) -> Finish
 
     // ---- The port has come to this end; but want of memory may come before its end.
     ensures ends { IsEndOf result (P.finish port.new) }
+
+    // ---- A fault of reading or of writing is answered only where the port counted it, and no other was counted.
+    ensures faults { P.faults port.new ≡ faults_behind (Some result) (P.faults port.old) }
 {
     plain_conversations_are_as_before();
     history_off_forgets_alone();

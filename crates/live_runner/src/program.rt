@@ -3,7 +3,7 @@
 ghost use Rattle.std.specs.Prelude.{◌≡◌, None};
 ghost use Rattle.command_line.specs.Words.{HasWords};
 ghost use Rattle.live_play.specs.Answer.{platform};
-ghost use Rattle.live_runner.specs.Program.{HoldsTo, IsRefused};
+ghost use Rattle.live_runner.specs.Program.{CountsFaults, HoldsTo, IsRefused};
 ghost use Rattle.native_tas.specs.Table.{drivers, entries};
 
 use crate::conversing::live;
@@ -51,6 +51,7 @@ pub fn run<P: Port, S: Sink>(
     // ---- Without words.
     ensures holds { (HasWords line.now → ⊥) → HoldsTo (platform (entries natives.now) (drivers natives.now))
         (P.history port.old) (P.history port.new) (P.finish port.new) result }
+    ensures counts { (HasWords line.now → ⊥) → CountsFaults result (P.faults port.old) (P.faults port.new) }
     ensures puts_nothing { (HasWords line.now → ⊥) → out.new ≡ out.old }
 {
     if line.has_words() {

@@ -1,8 +1,10 @@
 -- What was heard ends the conversation, or has its answer; and that is said, or ends it.
-use Rattle.std.proofs.Common.{sym}
+use Rattle.std.proofs.Common.{sym, ap, ◌∙◌}
+use Rattle.line_port.specs.Faults.{faults_behind}
+use Rattle.line_port.specs.Finish.{finish_of_said}
 use Rattle.live_play.specs.Answer.{platform}
 use Rattle.native_tas.specs.Table.{drivers, entries}
-use Rattle.live_runner.proofs.Turned.{ended-hearing, ended-saying, ended-unanswered, heard-there, said-all}
+use Rattle.live_runner.proofs.Turned.{ended-hearing, ended-saying, ended-unanswered, faults-ended, faults-kept, heard-there, said-all}
 use Rattle.live_runner.proofs.conversing.take_turn.Goals as goal
 
 pub returns-in-Some-clause-turn : goal.returns-in-Some-clause-turn
@@ -36,3 +38,20 @@ returns-in-Some-finish-clause-turn g c = λ here stands.
     _ _ _ there.1 (c.in-Ok.ensures here there.0 (record { player = stands.player; watching = stands.watching }) there.1)
     c.as_slice.ensures.value c.hear-heard.ensures.heard (sym c.in-Some-finish.ensures) c.say-said.ensures.failed
     c.say-said.ensures.memory
+
+pub returns-in-Some-clause-faults : goal.returns-in-Some-clause-faults
+returns-in-Some-clause-faults g c =
+    faults-ended _ c.in-Some.finish _ _ (sym c.in-Some.ensures) c.hear-heard.ensures.faults
+
+pub returns-in_default-answer-clause-faults : goal.returns-in_default-answer-clause-faults
+returns-in_default-answer-clause-faults g c = faults-kept _ _ _ (sym c.in_default.ensures) c.hear-heard.ensures.faults
+
+pub returns-in-None-clause-faults : goal.returns-in-None-clause-faults
+returns-in-None-clause-faults g c =
+    faults-kept _ _ _ (sym c.in-None.ensures) c.say-said.ensures.faults
+    ∙ faults-kept _ _ _ (sym c.in_default.ensures) c.hear-heard.ensures.faults
+
+pub returns-in-Some-finish-clause-faults : goal.returns-in-Some-finish-clause-faults
+returns-in-Some-finish-clause-faults g c =
+    faults-ended _ c.in-Some-finish.end _ _ (sym c.in-Some-finish.ensures) (c.say-said.ensures.faults
+    ∙ ap (faults_behind (finish_of_said c.say-said.result)) (faults-kept _ _ _ (sym c.in_default.ensures) c.hear-heard.ensures.faults))
