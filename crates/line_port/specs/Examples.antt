@@ -4,11 +4,16 @@ use Rattle.line_port.specs.Faults.{faults_behind, no_faults}
 use Rattle.line_port.specs.Finish.{finish_of_heard, finish_of_said}
 use Rattle.line_port.specs.Gathering.{IsGathered, MOST, TakesLine}
 use Rattle.line_port.specs.History.{Adds, Hears, Line, Long, Says, heard_events}
+use Rattle.line_port.specs.Told.{Closes, HappenInTurn, Happens, Told}
 use Rattle.line_port.specs.declared.finish.Finish.TheVariants as finish
 use Rattle.line_port.specs.declared.gathering.TheConstants.{LONGEST_LINE}
 use Rattle.line_port.specs.declared.port.Heard.TheVariants as heard
 use Rattle.line_port.specs.declared.port.Said.TheVariants as said
 use Rattle.text_lines.specs.Lines.{Lacks}
+
+-- a port that keeps no history
+abbrev pub telling : List ℕ → List ℕ → Told
+telling left held = record { history = None; left = Some left; held = Some held }
 
 pub record Examples : Type 0 where
   pub longest : LONGEST_LINE ≡ MOST
@@ -48,4 +53,11 @@ pub record Examples : Type 0 where
   pub short : TakesLine heard.Long [] (Some (codes "ab" ++ 10 ∷ [])) (Some []) → ⊥
   pub too_long : (line : List ℕ) → length line ≡ 8388737 →
       TakesLine heard.Line line (Some (line ++ 10 ∷ [])) (Some []) → ⊥
+  -- what happens over a port that tells what it has left and has written
+  pub a_turn : HappenInTurn (Hears (Line (codes "ab")) ∷ Says (codes "ok") ∷ []) (telling (codes "ab" ++ 10 ∷ codes "c") (codes "x"))
+      (telling (codes "c") (codes "xok"))
+  pub a_line_kept : Happens (Hears (Line (codes "ab"))) (telling (codes "ab" ++ 10 ∷ []) []) (telling (codes "ab" ++ 10 ∷ []) []) → ⊥
+  pub unwritten : Happens (Says (codes "ok")) (telling [] (codes "x")) (telling [] (codes "x")) → ⊥
+  pub closes : Closes finish.Over (telling [] (codes "x")) (telling [] (codes "x"))
+  pub closes_early : Closes finish.Over (telling (codes "c") []) (telling (codes "c") []) → ⊥
   pub gathered : IsGathered false (1 ∷ 2 ∷ []) (1 ∷ 2 ∷ [])

@@ -1,7 +1,10 @@
 -- What several calls of a port come to together.
-use Rattle.std.specs.Prelude.{List, [], ◌++◌, Option, Some, None}
-use Rattle.std.proofs.Common.{sym, ap, ◌∙◌, append_assoc, append-nil}
-use Rattle.line_port.specs.History.{Adds, Event}
+use Rattle.std.specs.Prelude.{List, [], ◌∷◌, ◌++◌, Option, Some, None}
+use Rattle.std.proofs.Common.{sym, ap, subst, ◌∙◌, append_assoc, append-nil}
+use Rattle.line_port.specs.History.{Adds, Event, Hears, Says}
+use Rattle.line_port.specs.Told.{Closes, HappenInTurn, Happens, Told}
+use Rattle.line_port.specs.declared.finish.Finish.{Finish}
+use Rattle.line_port.specs.declared.finish.Finish.TheVariants as finish
 
 -- a port that was left alone
 pub Adds-nil : (history : Option (List Event)) → Adds history history []
@@ -16,3 +19,30 @@ Adds-trans None (Some y) c xs ys p q = absurd p
 Adds-trans (Some x) None c xs ys p q = absurd p
 Adds-trans (Some x) (Some y) None xs ys p q = absurd q
 Adds-trans (Some x) (Some y) (Some z) xs ys p q = q ∙ ap (λ l. l ++ ys) p ∙ append_assoc x xs ys
+
+-- ---- what happens
+
+-- these events, and then those
+pub HappenInTurn-trans : (xs ys : List Event) (a b c : Told) → HappenInTurn xs a b → HappenInTurn ys b c → HappenInTurn (xs ++ ys) a c
+HappenInTurn-trans [] ys a b c same behind = subst (λ (t : Told). HappenInTurn ys t c) same behind
+HappenInTurn-trans (x ∷ xs) ys a b c before behind =
+    (before.0, before.1, HappenInTurn-trans xs ys before.0 b c before.2 behind)
+
+-- what happens stands in the history
+Happens-adds : (event : Event) (a b : Told) → Happens event a b → Adds a.history b.history (event ∷ [])
+Happens-adds (Hears input) a b happened = happened.0
+Happens-adds (Says bytes) a b happened = happened.0
+
+pub HappenInTurn-adds : (events : List Event) (a b : Told) → HappenInTurn events a b → Adds a.history b.history events
+HappenInTurn-adds [] a b same = subst (λ (t : Told). Adds a.history t.history []) (sym same) (Adds-nil a.history)
+HappenInTurn-adds (event ∷ events) a b happened =
+    Adds-trans a.history happened.0.history b.history (event ∷ []) events (Happens-adds event a happened.0 happened.1)
+    (HappenInTurn-adds events happened.0 b happened.2)
+
+-- and how it ends adds nothing to that
+pub Closes-adds : (end : Finish) (a b : Told) → Closes end a b → Adds a.history b.history []
+Closes-adds finish.Over a b closed = closed.0.history
+Closes-adds finish.ReadFault a b closed = closed.history
+Closes-adds finish.WriteFault a b closed =
+    subst (λ (t : Told). Adds a.history t.history []) (sym closed) (Adds-nil a.history)
+Closes-adds finish.Memory a b closed = closed.history

@@ -8,3 +8,4 @@ pub mod Kept
 pub mod Laws
 pub mod Pending
 pub mod SayingOut
+pub mod Told

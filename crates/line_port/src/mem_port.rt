@@ -254,10 +254,9 @@ impl<B: OtherSide> MemPort<B> {
 }
 
 impl<B: OtherSide> Port for MemPort<B> {
-    ghost use Rattle.std.specs.Prelude.{Some};
-    ghost use Rattle.line_port.specs.Kept.{events_of};
+    ghost use Rattle.line_port.specs.Kept.{events_of, told_of};
 
-    ghost history = { λ port. Some (events_of port.log.items) };
+    ghost told = { λ port. told_of (events_of port.log.items) };
 
     ghost finish = { λ port. port.finish };
 

@@ -1,7 +1,8 @@
-ghost use Rattle.std.specs.Prelude.{◌≡◌, ℕ, ◌≤◌, List, [], ◌∷◌, Option, length, take};
+ghost use Rattle.std.specs.Prelude.{◌≡◌, ℕ, ◌≤◌, Option, length, take};
 ghost use Rattle.line_port.specs.Faults.{faults_behind};
 ghost use Rattle.line_port.specs.Finish.{finish_of_heard, finish_of_said};
-ghost use Rattle.line_port.specs.History.{Adds, Event, Says, heard_events};
+ghost use Rattle.line_port.specs.History.{Says};
+ghost use Rattle.line_port.specs.Told.{Happens, HearsAs, Told};
 ghost use Rattle.line_port.specs.declared.faults.Faults.{Faults};
 ghost use Rattle.line_port.specs.declared.finish.Finish.{Finish};
 
@@ -65,8 +66,8 @@ impl Said {
 /// Where lines come from, and where what is said to them goes. Behind a call that brings it to its end no more are made, so
 /// that what is left of a line is never heard as one.
 pub trait Port {
-    /// What was heard and what was said, in its order, where the port tells it.
-    ghost history: { Self → Option (List Event) };
+    /// What was heard and what was said, in its order; what is left to be heard; and what was written: each where the port tells it.
+    ghost told: { Self → Told };
 
     /// How it has come to its end, where it has.
     ghost finish: { Self → Option Finish };
@@ -78,7 +79,7 @@ pub trait Port {
     /// heard, what it holds then is left open. Which line comes is the other side's choice, by all that was said so far.
     fn hear(&mut self, line: &mut Vec<u8>) -> Heard
         requires { finish self.old ≡ None }
-        ensures heard { Adds (history self.old) (history self.new) (heard_events result line.new.items) }
+        ensures heard { HearsAs result line.new.items (told self.old) (told self.new) }
         ensures within { result ≡ Heard.Line → length line.new.items ≤ 8388736 }
         ensures finishes { finish self.new ≡ finish_of_heard result }
         ensures faults { faults self.new ≡ faults_behind (finish_of_heard result) (faults self.old) };
@@ -86,11 +87,10 @@ pub trait Port {
     /// Says the bytes, so that the other side has them all before anything more is heard.
     fn say(&mut self, bytes: &[u8]) -> Said
         requires { finish self.old ≡ None }
-        ensures done { result ≡ Said.Done →
-            Adds (history self.old) (history self.new) (Says bytes.now ∷ []) }
+        ensures done { result ≡ Said.Done → Happens (Says bytes.now) (told self.old) (told self.new) }
         ensures failed { result ≡ Said.Failed →
-            (n : ℕ) × Adds (history self.old) (history self.new) (Says (take n bytes.now) ∷ []) }
-        ensures memory { result ≡ Said.Memory → Adds (history self.old) (history self.new) [] }
+            (n : ℕ) × Happens (Says (take n bytes.now)) (told self.old) (told self.new) }
+        ensures memory { result ≡ Said.Memory → told self.new ≡ told self.old }
         ensures finishes { finish self.new ≡ finish_of_said result }
         ensures faults { faults self.new ≡ faults_behind (finish_of_said result) (faults self.old) };
 }

@@ -1,9 +1,11 @@
-ghost use Rattle.std.specs.Prelude.{◌≡◌, ◌≢◌, ◌≤◌, [], None, IfOk, length};
-ghost use Rattle.line_port.specs.Edge.{left_at};
+ghost use Rattle.std.specs.Prelude.{◌≡◌, ◌≢◌, ℕ, ◌≤◌, [], None, IfOk, length, take};
+ghost use Rattle.line_port.specs.Edge.{left_at, told_at};
 ghost use Rattle.line_port.specs.Faults.{faults_behind, no_faults};
 ghost use Rattle.line_port.specs.Finish.{finish_of_heard, finish_of_said};
 ghost use Rattle.line_port.specs.Gathering.{TakesLine};
+ghost use Rattle.line_port.specs.History.{Says};
 ghost use Rattle.line_port.specs.SayingOut.{WritesOut};
+ghost use Rattle.line_port.specs.Told.{Happens, HearsAs};
 ghost use Rattle.text_lines.specs.Lines.{Lacks};
 
 use crate::finish::Finish;
@@ -58,9 +60,9 @@ impl<R: Read, W: Write> StdPort<R, W> {
 }
 
 impl<R: Read, W: Write> Port for StdPort<R, W> {
-    ghost use Rattle.std.specs.Prelude.{None};
+    ghost use Rattle.line_port.specs.Edge.{told_at};
 
-    ghost history = { λ port. None };
+    ghost told = { λ port. told_at R.remaining W.contents port };
 
     ghost finish = { λ port. port.finish };
 
@@ -68,6 +70,8 @@ impl<R: Read, W: Write> Port for StdPort<R, W> {
 
     fn hear(&mut self, line: &mut Vec<u8>) -> Heard
         requires { self.old.finish ≡ None }
+        ensures heard { HearsAs result line.new.items (told_at R.remaining W.contents self.old)
+            (told_at R.remaining W.contents self.new) }
         ensures within { result ≡ Heard.Line → length line.new.items ≤ 8388736 }
         ensures finishes { self.new.finish ≡ finish_of_heard result }
         ensures faults { self.new.faults ≡ faults_behind (finish_of_heard result) self.old.faults }
@@ -85,6 +89,10 @@ impl<R: Read, W: Write> Port for StdPort<R, W> {
 
     fn say(&mut self, bytes: &[u8]) -> Said
         requires { self.old.finish ≡ None }
+        ensures done { result ≡ Said.Done → Happens (Says bytes.now) (told_at R.remaining W.contents self.old)
+            (told_at R.remaining W.contents self.new) }
+        ensures failed { result ≡ Said.Failed → (n : ℕ) × Happens (Says (take n bytes.now))
+            (told_at R.remaining W.contents self.old) (told_at R.remaining W.contents self.new) }
         ensures memory { result ≢ Said.Memory }
         ensures finishes { self.new.finish ≡ finish_of_said result }
         ensures faults { self.new.faults ≡ faults_behind (finish_of_said result) self.old.faults }

@@ -1,10 +1,11 @@
 -- A conversation in which nothing asks: it is one as it was before lines could ask.
-use Rattle.std.proofs.Common.{◌≡◌, ℕ, List, [], ◌∷◌, ◌++◌, true, Option, refl, sym, ap, subst, ◌∙◌}
+use Rattle.std.proofs.Common.{◌≡◌, ℕ, List, [], ◌∷◌, ◌++◌, true, refl, sym, ap, subst, ◌∙◌}
 use Rattle.std.specs.Prelude.{◌&&◌, filter, take}
 use Rattle.std.specs.List.{list_all}
 use Rattle.std.proofs.lemmas.Bool.{and_from, and_parts}
 use Rattle.std.proofs.lemmas.List.Folds.{list_all-append}
 use Rattle.line_port.specs.History.{Adds, Event, Hears, Input, Says}
+use Rattle.line_port.specs.Told.{Told}
 use Rattle.line_port.specs.declared.finish.Finish.{Finish}
 use Rattle.line_port.specs.declared.finish.Finish.TheVariants as finish
 use Rattle.live_play.specs.Answer.{Platform}
@@ -79,8 +80,8 @@ held-alone on inputs plain law held =
 
 -- ---- all of it
 
-pub plain-talks : (on : Platform) (old new : Option (List Event)) (end : Finish) → PlainConversationsAreAsBefore
-    → TalksWithQuestions on old new end → HearsNoQuestion old new → Talks on old new end
+pub plain-talks : (on : Platform) (old new : Told) (end : Finish) → PlainConversationsAreAsBefore
+    → TalksWithQuestions on old new end → HearsNoQuestion old.history new.history → Talks on old.history new.history end
 plain-talks on old new end law shows unasked =
     let inputs : List Input = shows.talk.inputs in
     let rest : List Event = shows.talk.rest in
@@ -90,7 +91,7 @@ plain-talks on old new end law shows unasked =
     (sym (list_all-append hears_plain shown rest) ∙ unasked (shown ++ rest) shows.talk.history) in
     let plain : list_all is_plain inputs ≡ true = heard-plain on first_position inputs parts.0 in
     let stands = plain-behind on no_lines inputs law plain in
-    let P : List Event → Type 0 = λ events. Adds old new (events ++ rest) in
+    let P : List Event → Type 0 = λ events. Adds old.history new.history (events ++ rest) in
     let Q : Position → Type 0 = λ here. IsShownRest on here end rest in
     let R : Position → Type 0 = λ here. ArePlayed on here.lines in
     record {

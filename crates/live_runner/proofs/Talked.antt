@@ -1,10 +1,11 @@
 -- The turns so far.
-use Rattle.std.proofs.Common.{◌≡◌, ℕ, ◌⊎◌, inl, inr, List, [], ◌∷◌, ◌++◌, Option, Some, None, refl, sym, ap, subst, ◌∙◌}
+use Rattle.std.proofs.Common.{◌≡◌, ℕ, ◌⊎◌, inl, inr, List, [], ◌∷◌, ◌++◌, Option, Some, None, refl, sym, ap, subst, ◌∙◌, append-nil}
 use Rattle.std.specs.Prelude.{IfSome, IsSome, Ok, filter}
 use Rattle.kernel_model.specs.Application.{IsBooted, booted}
 use Rattle.kernel_model.proofs.Parts.{some_of}
 use Rattle.line_port.specs.History.{Adds, Event, Hears, Input, Says}
-use Rattle.line_port.specs.Laws.{Adds-nil, Adds-trans}
+use Rattle.line_port.specs.Laws.{Adds-nil, Adds-trans, Closes-adds, HappenInTurn-adds, HappenInTurn-trans}
+use Rattle.line_port.specs.Told.{Closes, HappenInTurn, Told}
 use Rattle.line_port.specs.declared.finish.Finish.{Finish}
 use Rattle.line_port.specs.declared.finish.Finish.TheVariants as finish
 use Rattle.live_play.specs.Answer.{IsPlayed, Platform, play_at}
@@ -13,7 +14,7 @@ use Rattle.live_play.specs.Laws.{IsHeld, TurnsAreTold}
 use Rattle.live_play.specs.Showing.{ArePlayed, IsShownRest, Position, first_position, position_after, position_behind, showing, shown_to}
 use Rattle.live_play.specs.ShowingLaws.{HistoryOffForgetsAlone, is_plain}
 use Rattle.live_runner.specs.Talks.{AreHeld, TalksWithQuestions, platform_behind}
-use Rattle.live_runner.specs.Turns.{StandsIn, Turns}
+use Rattle.live_runner.specs.Turns.{EndsTurn, StandsIn, Turns}
 use Rattle.live_runner.specs.declared.talk.Talk.{Talk}
 use Rattle.notify_play.specs.NotifyPlay.{NotifyPlay}
 use Rattle.notify_text.specs.Rules.{no_lines}
@@ -61,25 +62,25 @@ parts (i ∷ inputs) input (f ∷ front) behind e =
 
 -- ---- the turns so far
 
--- the history grew by whole turns, behind which it stands; and each part of them has its play
-pub record Going (on : Platform) (start now : Option (List Event)) (talk : Talk) : Type 0 where
+-- whole turns happened over the port, behind which it stands; and each part of them has its play
+pub record Going (on : Platform) (start now : Told) (talk : Talk) : Type 0 where
   pub inputs : List Input
-  pub history : Adds start now (showing on first_position inputs)
+  pub happened : HappenInTurn (showing on first_position inputs) start now
   pub stands : StandsIn on (position_behind on first_position inputs) talk
   pub each : (front behind : List Input) → inputs ≡ front ++ behind → ArePlayed on (position_behind on first_position front).lines
 
-pub going-first : (on : Platform) (start : Option (List Event)) (talk : Talk) → StandsIn on first_position talk
+pub going-first : (on : Platform) (start : Told) (talk : Talk) → StandsIn on first_position talk
     → Going on start start talk
 going-first on start talk stands = record {
   inputs = [];
-  history = Adds-nil start;
+  happened = refl;
   stands = stands;
   each = λ front behind e.
       let P : List Input → Type 0 = λ l. ArePlayed on (position_behind on first_position l).lines in
       subst P (sym (none-left front behind e)) stands.player.has_play;
 }
 
-pub going-more : (on : Platform) (start old new : Option (List Event)) (before after : Talk)
+pub going-more : (on : Platform) (start old new : Told) (before after : Talk)
     → Going on start old before
     → ((here : Position) → StandsIn on here before → Turns on here old new (Ok tt) after)
     → Going on start new after
@@ -92,10 +93,12 @@ going-more on start old new before after going turns =
     subst P (sym (behind-more on first_position going.inputs input)) turn.2 in
     record {
       inputs = all;
-      history =
-          subst (Adds start new) (sym (showing-more on first_position going.inputs input))
-          (Adds-trans start old new (showing on first_position going.inputs)
-          (Hears input ∷ Says (shown_to on (position_behind on first_position going.inputs) input) ∷ []) going.history turn.1);
+      happened =
+          let R : List Event → Type 0 = λ events. HappenInTurn events start new in
+          subst R (sym (showing-more on first_position going.inputs input))
+          (HappenInTurn-trans (showing on first_position going.inputs)
+          (Hears input ∷ Says (shown_to on (position_behind on first_position going.inputs) input) ∷ []) start old new
+          going.happened turn.1);
       stands = stands;
       each = λ front behind e.
           let Q : List Input → Type 0 = λ l. ArePlayed on (position_behind on first_position l).lines in
@@ -155,20 +158,43 @@ half-held on inputs finish.Memory rest told alone ended input part e =
       | inr heard ↦ absurd (unanswered heard.0 input part (sym heard.1 ∙ e))
     ]
 
-pub shows-ended : (on : Platform) (start old new : Option (List Event)) (talk : Talk) (end : Finish) → TurnsAreTold
-    → HistoryOffForgetsAlone → Going on start old talk
-    → ((here : Position) → StandsIn on here talk → (rest : List Event) × Adds old new rest × IsShownRest on here end rest)
+-- it ended as it waited for a line
+pub ends-unheard : (on : Platform) (here : Position) (now : Told) → EndsTurn on here now now finish.Memory
+ends-unheard on here now = record {
+  rest = [];
+  behind = now;
+  happened = refl;
+  closed = record { history = Adds-nil now.history; held = refl };
+  ended = inl refl;
+}
+
+-- what happened stands in the history, whatever end it came to
+grown-by : (events : List Event) (end : Finish) (start behind new : Told) → HappenInTurn events start behind → Closes end behind new
+    → Adds start.history new.history events
+grown-by events end start behind new happened closed =
+    subst (Adds start.history new.history) (append-nil events)
+    (Adds-trans start.history behind.history new.history events [] (HappenInTurn-adds events start behind happened)
+    (Closes-adds end behind new closed))
+
+pub shows-ended : (on : Platform) (start old new : Told) (talk : Talk) (end : Finish) → TurnsAreTold → HistoryOffForgetsAlone
+    → Going on start old talk → ((here : Position) → StandsIn on here talk → EndsTurn on here old new end)
     → TalksWithQuestions on start new end
 shows-ended on start old new talk end told alone going ends =
     let last = ends (position_behind on first_position going.inputs) going.stands in
+    let events : List Event = showing on first_position going.inputs ++ last.rest in
+    let happened : HappenInTurn events start last.behind =
+    HappenInTurn-trans (showing on first_position going.inputs) last.rest start old last.behind going.happened last.happened in
     record {
       talk = record {
         inputs = going.inputs;
-        rest = last.0;
-        history = Adds-trans start old new (showing on first_position going.inputs) last.0 going.history last.1;
-        ended = last.2;
+        rest = last.rest;
+        history = grown-by events end start last.behind new happened last.closed;
+        ended = last.ended;
         played = going.stands.player.has_play;
       };
+      behind = last.behind;
+      happened = happened;
+      closed = last.closed;
       held = λ front behind e. held-behind on front told alone (going.each front behind e);
-      half_said = half-held on going.inputs end last.0 told alone last.2;
+      half_said = half-held on going.inputs end last.rest told alone last.ended;
     }

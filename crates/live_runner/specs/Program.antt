@@ -1,6 +1,6 @@
 -- What a program of a conversation comes to.
 use Rattle.std.specs.Prelude.{◌≡◌, ◌≢◌, ◌⊎◌, ℕ, List, [], ◌∷◌, ◌++◌, codes, take, Option}
-use Rattle.line_port.specs.History.{Event}
+use Rattle.line_port.specs.Told.{Told}
 use Rattle.line_port.specs.declared.faults.Faults.{Faults}
 use Rattle.line_port.specs.declared.finish.Finish.{Finish}
 use Rattle.live_play.specs.Answer.{Platform}
@@ -25,11 +25,11 @@ pub record IsRefused (result : ℕ) (old new : Option (List ℕ)) (faults_old fa
 -- ---- without words
 
 -- a conversation was held, and the status is that of its end
-pub record HoldsTo (on : Platform) (old new : Option (List Event)) (ended : Option Finish) (result : ℕ) : Type 0 where
+pub record HoldsTo (on : Platform) (old new : Told) (ended : Option Finish) (result : ℕ) : Type 0 where
   pub finish : Finish
   pub status_is : result ≡ status finish
   pub shows : TalksWithQuestions on old new finish
-  pub talks : HearsNoQuestion old new → Talks on old new finish
+  pub talks : HearsNoQuestion old.history new.history → Talks on old.history new.history finish
   pub ends : IsEndOf finish ended
 
 -- 4 is answered only where the port counted a fault of reading, and 5 only where it counted one of writing; else it counted none

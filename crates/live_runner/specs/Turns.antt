@@ -1,7 +1,8 @@
 -- What one turn of a conversation comes to.
 use Rattle.std.specs.Prelude.{◌≡◌, ◌⊎◌, ℕ, List, [], ◌∷◌, ◌++◌, true, is_some, not, Option, None, Some, Result, Ok, Err}
-use Rattle.line_port.specs.History.{Adds, Event, Hears, Input, Says, heard_events}
+use Rattle.line_port.specs.History.{Event, Hears, Input, Says, heard_events}
 use Rattle.line_port.specs.History as heard
+use Rattle.line_port.specs.Told.{Closes, HappenInTurn, Told}
 use Rattle.line_port.specs.declared.finish.Finish.{Finish}
 use Rattle.line_port.specs.declared.finish.Finish.TheVariants.{Memory}
 use Rattle.line_port.specs.declared.port.Heard.{Heard}
@@ -70,12 +71,20 @@ pub record HasShown (on : Platform) (here : Position) (input : Input) (talk : Ta
 
 -- ---- a turn
 
+-- it ends so: what is left behind the last answer happened over the port, and then the port came to its end
+pub record EndsTurn (on : Platform) (here : Position) (old new : Told) (finish : Finish) : Type 0 where
+  pub rest : List Event
+  pub behind : Told
+  pub happened : HappenInTurn rest old behind
+  pub closed : Closes finish behind new
+  pub ended : IsShownRest on here finish rest
+
 -- something was heard, and its answer said; or the conversation ends so
-abbrev pub Turns : Platform → Position → Option (List Event) → Option (List Event) → Result (Unit {0}) Finish → Talk → Type 0
+abbrev pub Turns : Platform → Position → Told → Told → Result (Unit {0}) Finish → Talk → Type 0
 Turns on here old new (Ok done) talk =
-    (input : Input) × Adds old new (Hears input ∷ Says (shown_to on here input) ∷ [])
+    (input : Input) × HappenInTurn (Hears input ∷ Says (shown_to on here input) ∷ []) old new
     × StandsIn on (position_after on here input) talk
-Turns on here old new (Err finish) talk = (rest : List Event) × Adds old new rest × IsShownRest on here finish rest
+Turns on here old new (Err finish) talk = EndsTurn on here old new finish
 
 -- a port that has ended so ended the conversation so; want of memory may come where it has not
 abbrev pub IsEndOf : Finish → Option Finish → Type 0

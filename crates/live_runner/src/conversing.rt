@@ -24,7 +24,7 @@ fn take_turn<P: Port>(
     requires open_there { P.finish port.old ≡ None }
     requires stands { (here : Position) × StandsIn (platform (entries natives.now) (drivers natives.now)) here talk.old }
     ensures turn { (here : Position) → StandsIn (platform (entries natives.now) (drivers natives.now)) here talk.old
-        → Turns (platform (entries natives.now) (drivers natives.now)) here (P.history port.old) (P.history port.new) result
+        → Turns (platform (entries natives.now) (drivers natives.now)) here (P.told port.old) (P.told port.new) result
         talk.new }
     ensures ends { EndsAs result (P.finish port.new) }
     ensures faults { P.faults port.new ≡ faults_behind (end_of result) (P.faults port.old) }
@@ -51,14 +51,15 @@ pub fn live<P: Port>(alloc: Global, natives: &Natives, port: &mut P) -> Finish
 
     // ---- The history grew by a conversation from the first line on, in which lines may ask. Of the lines of a trace with signals, as of
     // the last one where its answer was said in part, all returns are those of one play, whose history is legal, with the kernel's own
-    // answers, behind each turn.
-    ensures shows { TalksWithQuestions (platform (entries natives.now) (drivers natives.now)) (P.history port.old) (P.history port.new) result }
+    // answers, behind each turn. Where the port tells these, what is left to be heard has lost its lines, and what was written has grown by
+    // their answers.
+    ensures shows { TalksWithQuestions (platform (entries natives.now) (drivers natives.now)) (P.told port.old) (P.told port.new) result }
 
     // ---- Where no line asks or turns history off, the history grew by a conversation from the first line on, as it does without lines that ask; and
     // behind each of its turns, as behind an answer that was said in part, all returns are those of one play, whose history is
     // legal, with the kernel's own answers.
-    ensures talks { HearsNoQuestion (P.history port.old) (P.history port.new) →
-        Talks (platform (entries natives.now) (drivers natives.now)) (P.history port.old) (P.history port.new) result }
+    ensures talks { HearsNoQuestion (P.told port.old).history (P.told port.new).history →
+        Talks (platform (entries natives.now) (drivers natives.now)) (P.told port.old).history (P.told port.new).history result }
 
     // ---- The port has come to this end; but want of memory may come before its end.
     ensures ends { IsEndOf result (P.finish port.new) }

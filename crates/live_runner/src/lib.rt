@@ -16,13 +16,15 @@
 //! is legal, with the kernel's own answers, and the `ret` lines are its exits, one for each in their order. Where
 //! nothing that was heard asks or turns history off (`HearsNoQuestion`), it is the conversation that it is without such
 //! lines (`Talks`). The port has come to the end that `live` answers, with its cause; want of memory alone may be
-//! answered where the port goes on (`IsEndOf`), also behind 2^64 - 1 turns. A fault of reading or of writing is answered
-//! only where the port has counted it, and no other was counted (`faults_behind`). `run` does what the program is called for,
-//! by its command line (`IsRefused`, `HoldsTo`): where there are words nothing is heard, and the status is 2 only where
-//! the usage line was written, 5 only where the sink counted a fault, behind a part of it, and else 6, where nothing
-//! was written; without words nothing is put into the sink, and the status is that of the end of one call of `live`: 0,
-//! 4, 5 or 6. Of these 4 comes only where the port counted a fault of reading, and 5 only where it counted one of writing;
-//! at 0 and 6 it counted none (`CountsFaults`).
+//! answered where the port goes on (`IsEndOf`), also behind 2^64 - 1 turns. What is left to be heard loses the lines of
+//! that conversation, in their order, and what was written grows by their answers, in theirs, where the port tells
+//! these, as a `StdPort` does whose reader and writer do (`HappenInTurn`); which of them comes first the history alone
+//! tells. A fault of reading or of writing is answered only where the port has counted it, and no other was counted
+//! (`faults_behind`). `run` does what the program is called for, by its command line (`IsRefused`, `HoldsTo`): where
+//! there are words nothing is heard, and the status is 2 only where the usage line was written, 5 only where the sink
+//! counted a fault, behind a part of it, and else 6, where nothing was written; without words nothing is put into the
+//! sink, and the status is that of the end of one call of `live`: 0, 4, 5 or 6. Of these 4 comes only where the port
+//! counted a fault of reading, and 5 only where it counted one of writing; at 0 and 6 it counted none (`CountsFaults`).
 #![tactic(auto)]
 
 mod conversing;

@@ -50,7 +50,7 @@ pub fn run<P: Port, S: Sink>(
 
     // ---- Without words.
     ensures holds { (HasWords line.now → ⊥) → HoldsTo (platform (entries natives.now) (drivers natives.now))
-        (P.history port.old) (P.history port.new) (P.finish port.new) result }
+        (P.told port.old) (P.told port.new) (P.finish port.new) result }
     ensures counts { (HasWords line.now → ⊥) → CountsFaults result (P.faults port.old) (P.faults port.new) }
     ensures puts_nothing { (HasWords line.now → ⊥) → out.new ≡ out.old }
 {

@@ -3,6 +3,7 @@ use Rattle.std.proofs.Common.{◌≡◌, ℕ, ◌≤◌, List, [], ◌∷◌, �
 use Rattle.std.proofs.lemmas.List.Elements.{All-cons, All-nil}
 use Rattle.std.specs.Prelude.{codes}
 use Rattle.text_lines.specs.Lines.{Lacks}
+use Rattle.line_port.specs.Examples.{telling}
 use Rattle.line_port.proofs.laws.worked_examples.Goals as goal
 
 abbrev is_other : ℕ → Type 0
@@ -56,5 +57,15 @@ returns c = record {
     | inr p ↦ omega (arith, few long.text [] p.0, long.long)
   ];
   too_long = λ line e whole. omega (arith, whole.short);
+  a_turn = (
+    telling (codes "c") (codes "x"),
+    (tt, λ some. record { lacks = lacks_ab; short = lit≤ tt; consumed = refl }, refl),
+    (telling (codes "c") (codes "xok"), (tt, refl, refl), refl),
+  );
+  a_line_kept = λ happened.
+      let taken = happened.1 refl in let e : 97 ∷ 98 ∷ 10 ∷ [] ≡ 97 ∷ 98 ∷ 10 ∷ 97 ∷ 98 ∷ 10 ∷ [] = taken.consumed in cc;
+  unwritten = λ happened. let e : 120 ∷ [] ≡ 120 ∷ 111 ∷ 107 ∷ [] = happened.1 in cc;
+  closes = (record { history = tt; held = refl }, λ some. (refl, refl));
+  closes_early = λ closed. let rest = closed.1 refl in let e : 99 ∷ [] ≡ [] = rest.1 in cc;
   gathered = (refl, lit≤ tt);
 }

@@ -1,13 +1,12 @@
 -- Each turn adds to the conversation, and the last one ends it.
-use Rattle.std.proofs.Common.{[], Some, inl, inr, refl, ap, ◌∙◌}
+use Rattle.std.proofs.Common.{Some, inr, refl, ap, ◌∙◌}
 use Rattle.line_port.specs.Faults.{faults_behind}
-use Rattle.line_port.specs.Laws.{Adds-nil}
 use Rattle.line_port.specs.declared.finish.Finish.TheVariants as finish
 use Rattle.live_play.specs.Answer.{platform}
 use Rattle.live_play.specs.Showing.{first_position, position_behind}
 use Rattle.native_tas.specs.Table.{drivers, entries}
 use Rattle.live_runner.proofs.Plain.{plain-talks}
-use Rattle.live_runner.proofs.Talked.{going-first, going-more, shows-ended}
+use Rattle.live_runner.proofs.Talked.{ends-unheard, going-first, going-more, shows-ended}
 use Rattle.live_runner.proofs.conversing.live.Goals as goal
 
 pub loop-init : goal.loop-init
@@ -15,7 +14,7 @@ loop-init g c = record {
   going_on = c.requires;
   faultless = refl;
   going = going-first (platform (entries c.args.natives.now) (drivers c.args.natives.now))
-      (g.P.Port.history c.args.port.now) c.new-talk.result
+      (g.P.Port.told c.args.port.now) c.new-talk.result
       (c.new-talk.ensures (entries c.args.natives.now) (drivers c.args.natives.now));
 }
 
@@ -49,13 +48,13 @@ returns-in-Err-clause-faults g c =
 pub returns-clause-shows : goal.returns-clause-shows
 returns-clause-shows g c =
     shows-ended _ _ _ _ _ finish.Memory c.turns_are_told.ensures c.history_off_forgets_alone.ensures c.loop.invariant.going
-    (λ here stands. ([], Adds-nil _, inl refl))
+    (λ here stands. ends-unheard _ here _)
 
 pub returns-clause-talks : goal.returns-clause-talks
 returns-clause-talks g c =
     plain-talks _ _ _ _ c.plain_conversations_are_as_before.ensures
     (shows-ended _ _ _ _ _ finish.Memory c.turns_are_told.ensures c.history_off_forgets_alone.ensures c.loop.invariant.going
-    (λ here stands. ([], Adds-nil _, inl refl)))
+    (λ here stands. ends-unheard _ here _))
 
 pub returns-clause-ends : goal.returns-clause-ends
 returns-clause-ends g c = inr (refl, c.loop.invariant.going_on)

@@ -9,5 +9,5 @@ abbrev pub invariant-loop : goal.invariant-loop
 invariant-loop g l = record {
   going_on : g.P.Port.finish l.port ≡ None;
   faultless : g.P.Port.faults l.port ≡ g.P.Port.faults l.fn.port;
-  going : Going (platform (entries l.natives) (drivers l.natives)) (g.P.Port.history l.fn.port) (g.P.Port.history l.port) l.talk;
+  going : Going (platform (entries l.natives) (drivers l.natives)) (g.P.Port.told l.fn.port) (g.P.Port.told l.port) l.talk;
 }

@@ -4,7 +4,7 @@ use Rattle.line_port.specs.Faults.{faults_behind}
 use Rattle.line_port.specs.Finish.{finish_of_said}
 use Rattle.live_play.specs.Answer.{platform}
 use Rattle.native_tas.specs.Table.{drivers, entries}
-use Rattle.live_runner.proofs.Turned.{ended-hearing, ended-saying, ended-unanswered, faults-ended, faults-kept, heard-there, said-all}
+use Rattle.live_runner.proofs.Turned.{ended-hearing, ended-saying, ended-unanswered, faults-ended, faults-kept, heard-happens, heard-there, said-all}
 use Rattle.live_runner.proofs.conversing.take_turn.Goals as goal
 
 pub returns-in-Some-clause-turn : goal.returns-in-Some-clause-turn
@@ -19,25 +19,28 @@ answer-requires g c =
 pub returns-in_default-answer-clause-turn : goal.returns-in_default-answer-clause-turn
 returns-in_default-answer-clause-turn g c = λ here stands.
     let there = heard-there c.hear-heard.result c.hear-heard.new.line.items (sym c.in_default.ensures) in
-    ended-unanswered (platform (entries c.args.natives.now) (drivers c.args.natives.now)) here c.hear-heard.result
-    c.hear-heard.new.line.items there.0 _ _ there.1 c.hear-heard.ensures.heard
+    ended-unanswered (platform (entries c.args.natives.now) (drivers c.args.natives.now)) here there.0 _ _
+    (heard-happens c.hear-heard.result c.hear-heard.new.line.items there.0 _ _ there.1 c.hear-heard.ensures.heard)
 
 pub returns-in-None-clause-turn : goal.returns-in-None-clause-turn
 returns-in-None-clause-turn g c = λ here stands.
     let there = heard-there c.hear-heard.result c.hear-heard.new.line.items (sym c.in_default.ensures) in
-    said-all (platform (entries c.args.natives.now) (drivers c.args.natives.now)) here c.hear-heard.result
-    c.hear-heard.new.line.items c.as_slice.result.now there.0 c.answer.new.self c.say-said.result _ _ _ there.1
+    said-all (platform (entries c.args.natives.now) (drivers c.args.natives.now)) here c.as_slice.result.now there.0
+    c.answer.new.self c.say-said.result _ _ _
     (c.in-Ok.ensures here there.0 (record { player = stands.player; watching = stands.watching }) there.1)
-    c.as_slice.ensures.value c.hear-heard.ensures.heard (sym c.in-None.ensures) c.say-said.ensures.done
+    c.as_slice.ensures.value
+    (heard-happens c.hear-heard.result c.hear-heard.new.line.items there.0 _ _ there.1 c.hear-heard.ensures.heard)
+    (sym c.in-None.ensures) c.say-said.ensures.done
 
 pub returns-in-Some-finish-clause-turn : goal.returns-in-Some-finish-clause-turn
 returns-in-Some-finish-clause-turn g c = λ here stands.
     let there = heard-there c.hear-heard.result c.hear-heard.new.line.items (sym c.in_default.ensures) in
-    ended-saying (platform (entries c.args.natives.now) (drivers c.args.natives.now)) here c.hear-heard.result
-    c.hear-heard.new.line.items c.as_slice.result.now there.0 c.answer.new.self c.say-said.result c.in-Some-finish.end
-    _ _ _ there.1 (c.in-Ok.ensures here there.0 (record { player = stands.player; watching = stands.watching }) there.1)
-    c.as_slice.ensures.value c.hear-heard.ensures.heard (sym c.in-Some-finish.ensures) c.say-said.ensures.failed
-    c.say-said.ensures.memory
+    ended-saying (platform (entries c.args.natives.now) (drivers c.args.natives.now)) here c.as_slice.result.now there.0
+    c.answer.new.self c.say-said.result c.in-Some-finish.end _ _ _
+    (c.in-Ok.ensures here there.0 (record { player = stands.player; watching = stands.watching }) there.1)
+    c.as_slice.ensures.value
+    (heard-happens c.hear-heard.result c.hear-heard.new.line.items there.0 _ _ there.1 c.hear-heard.ensures.heard)
+    (sym c.in-Some-finish.ensures) c.say-said.ensures.failed c.say-said.ensures.memory
 
 pub returns-in-Some-clause-faults : goal.returns-in-Some-clause-faults
 returns-in-Some-clause-faults g c =
