@@ -7,14 +7,14 @@
 //!
 //! # What is proved
 //!
-//! `tulgexar_run` makes one call of `run_alone`, beside the digest application and the driver of value 1, over a source
-//! and a sink in memory that count no fault: its words are what stands between the spaces of the line, or none where
-//! that is not UTF-8 (`texts_in`), and the clauses of `run` hold of its status and of all that it put (`IsRun`),
-//! ReadFault and WriteFault never come, and want of memory alone may come before the call. What C is handed
-//! (`HandsOut`): the length of the whole output; where it fits, the output at the front of the buffer, the rest as it
-//! was, and the status's number; else its front, and 8. What C has to keep to, and that the header says what the source
-//! says, is trusted (`embedding.md`). Tested outside the gate, with a C compiler: `tools/embed.py` compares what the
-//! bench and the misuses of `embed/` print.
+//! - `tulgexar_run` makes one call of `run_alone`, beside the digest application and the driver of value 1, over a
+//!   source and a sink in memory that count no fault. Its words are what stands between the spaces of the line, or none
+//!   where that is not UTF-8 (`texts_in`). The clauses of `run` hold of its status and of all that it put (`IsRun`),
+//!   ReadFault and WriteFault never come, and want of memory alone may come before the call.
+//! - What C is handed (`HandsOut`): the length of the whole output; where it fits, the output at the front of the
+//!   buffer, the rest as it was, and the status's number; else its front, and 8.
+//! - What C has to keep to, and that the header says what the source says, is trusted (`embedding.md`). Tested outside
+//!   the gate, with a C compiler: `tools/embed.py` compares what the bench and the misuses of `embed/` print.
 #![tactic(auto)]
 
 ghost use Rattle.core_c.specs.HandingOut.{IsAnswered};

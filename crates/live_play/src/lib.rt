@@ -1,11 +1,17 @@
 //! What a conversation with a core is, in which each line is answered before the next one is heard.
 //!
-//! The crate is one of definitions, over the play of a trace with signals. `specs/` reads in the order of its modules: `Answer`
-//! has what is answered to a line and which lines count behind it, `Conversation` what is heard and said, and how it ends,
-//! `Returns` which `ret` line is of which exit, and `Laws` what holds of each conversation. Behind them stand conversations in
-//! which lines ask, and those with history off: `Changes` has what an exit changes in RAM, `State` the text of what a kernel keeps,
-//! `Showing` what is answered then, `ShowingLaws` what holds of them, and `PanickingLaws` of the panics that are told; `Copies` the copy
-//! of RAM that is kept beside one.
+//! The crate is one of definitions, over the play of a trace with signals. `specs/` reads in the order of its modules:
+//! - `Answer`: what is answered to a line, and which lines count behind it
+//! - `Conversation`: what is heard and said, and how it ends
+//! - `Returns`: which `ret` line is of which exit
+//! - `Laws`: what holds of each conversation
+//!
+//! Of conversations in which lines ask, and of those with history off:
+//! - `Changes`: what an exit changes in RAM
+//! - `State`: the text of what a kernel keeps
+//! - `Showing`: what is answered then
+//! - `ShowingLaws`, `PanickingLaws`: what holds of them, and of the panics that are told
+//! - `Copies`: the copy of RAM that is kept beside one
 //!
 //! Nothing here touches RAM, a port or a thread.
 //!
@@ -30,30 +36,30 @@
 //! all entries read above what they may. Nor does a question or a line `history` that breaks a rule change anything,
 //! whether exits are watched or not, and not even that (`refused_lines_change_nothing`).
 //!
-//! Of the definitions of conversations in which lines may ask: what asks changes nothing that counts, but for `watch`
-//! not even what is said later, and could as well have been left out: a line that doesn't ask is answered as it is
-//! without it, but for whether exits are watched (`questions_change_nothing`); `history off` changes how much entries
-//! may read, and whether events are told, and nothing of the lines that count: those of a trace with signals count, and
-//! are answered, as they do alone where entries may read so much (`history_off_forgets_alone`), and while no entry is
-//! refused it makes no difference how much they may read, so none whether history is off (`more_bytes_change_nothing`);
-//! where nothing asks or turns history off, all goes as without such lines (`plain_conversations_are_as_before`);
-//! behind the line of an exit that is watched stands the panic in which its call has ended, if it did, and then what
-//! has changed in its processor's RAM, which, laid over what that RAM was, gives what it is, and the RAM of every other
-//! processor is what it was; an answer that has no line `ret` is as where no exit is watched (`exits_are_watched`).
-//! What has changed gives what RAM is over any RAM that becomes no shorter (`changes_tell_all`), as none does
-//! (`ram_is_kept` of `play_model`). So a copy that is kept over a whole conversation, by the bytes of the header, then
-//! by those of each line `write` that counts and of each line `wrote`, is the RAM of each processor, behind each
-//! answer, where each exit was watched (`copies_are_ram`).
+//! Of the definitions of conversations in which lines may ask:
+//! - What asks changes nothing that counts, and, but for `watch`, not even what is said later, so that it could as well
+//!   have been left out: a line that doesn't ask is answered as it is without it, but for whether exits are watched
+//!   (`questions_change_nothing`).
+//! - `history off` changes how much entries may read, and whether events are told, and nothing of the lines that count:
+//!   those of a trace with signals count, and are answered, as they do alone where entries may read so much
+//!   (`history_off_forgets_alone`).
+//! - While no entry is refused it makes no difference how much they may read, so none whether history is off
+//!   (`more_bytes_change_nothing`).
+//! - Where nothing asks or turns history off, all goes as without such lines (`plain_conversations_are_as_before`).
+//! - Behind the line of an exit that is watched stands the panic in which its call has ended, if it did, and then what
+//!   has changed in its processor's RAM (`exits_are_watched`). Laid over what that RAM was, this gives what it is, and
+//!   the RAM of every other processor is what it was. An answer that has no line `ret` is as where no exit is watched.
+//! - What has changed gives what RAM is over any RAM that becomes no shorter (`changes_tell_all`), as none does
+//!   (`ram_is_kept` of `play_model`).
+//! - So a copy that is kept over a whole conversation is the RAM of each processor, behind each answer, where each exit
+//!   was watched (`copies_are_ram`). It is kept by the bytes of the header, then by those of each line `write` that
+//!   counts and of each line `wrote`.
 //!
 //! Behind an exit at which a panic is told its call has ended: its slot holds no call, or one that has its result; and
 //! of one that has none is told (`panics_end_calls`). Whatever comes then, it has ended still, until it leaves its slot
 //! (`ended_calls_stay`): so each panic is told once.
 //!
-//! Nine conversations go as is written there, byte for byte, and six in which lines ask or turn history off
-//! (`questions_shown`), two of them on a platform whose entries may read nothing, with five slots, six calls that are
-//! masked or not, and a state with one that is, two instances and two more, two sessions, the counts where the session
-//! of an open that waits has outlasted its instance, a buffer of three pages, a panic, two changes, and a copy of RAM
-//! that is kept; six ends are ones, and four aren't. `status_of` is the status of the definitions. It has no edit.
+//! Its examples are conversations, byte for byte, and their ends. `status_of` is the status of the definitions.
 #![tactic(auto)]
 
 mod laws;

@@ -1,26 +1,30 @@
 //! What two journals show of a session, or of the sessions that share one instance: whether the same happened to it in both, or
 //! where that first differs.
 //!
-//! Each journal is done again once, which checks it and reads the log of the session or of the group off it. The two logs are compared
-//! as they are read, and of both only what the other lacks is kept.
-//! `comparing` has the calls, `reading` reads both journals, whosever logs they are, `sessions` and `groups` say whose, `differing`
-//! compares the logs, `apart` says what the two applications alone show, and `illegal` what is told of journals that can't be.
-//! `same_events`, `same_group_events`, `same_inputs`, `same_params` and `same_apps` say when two events, what came with them,
-//! parameters and applications are the same.
+//! Each journal is done again once, which checks it and reads the log of the session or of the group off it. The two
+//! logs are compared as they are read, and of both only what the other lacks is kept.
+//!
+//! `comparing` has the calls, `reading` reads both journals, whosever logs they are, `sessions` and `groups` say whose,
+//! `differing` compares the logs, `apart` says what the two applications alone show, and `illegal` what is told of
+//! journals that can't be. `same_events`, `same_group_events`, `same_inputs`, `same_params` and `same_apps` say when
+//! two events, what came with them, parameters and applications are the same.
 //!
 //! It touches the RAM of the cores on which the journals are done again, and no port and no thread.
 //!
 //! # What is proved
 //!
-//! `compare` gives the answer of `compare_model` on two journals that were read and a session (`IsComparedAs`), and
-//! `compare_groups` that on them and the group of an application, or want of memory: Illegal, Absent, Other, Events or
-//! Same, each where none before it comes. They ask of each journal what `check` of `audit` asks, and nothing of the
-//! session or the UUID. Each journal is done again once, which checks it and reads the log off it, and the first once
-//! more where the second can't be; where a boot has no application of the group's UUID, both are checked. Both logs are
-//! compared as they are read, and only what one log has more than the other is kept (`Compares`). That is proved once,
-//! for whatever reads a log off a journal (`ReadsLog`), as the readers of a session and of a group do. Events,
-//! applications and images are compared field by field, and the functions that do so say that they are the same exactly
-//! where they are equal. At Same the replies are equal in both, by the law of `compare_model` (`same_replies`).
+//! - `compare` gives the answer of `compare_model` on two journals that were read and a session (`IsComparedAs`), and
+//!   `compare_groups` that on them and the group of an application, or want of memory: Illegal, Absent, Other, Events
+//!   or Same, each where none before it comes. They ask of each journal what `check` of `audit` asks, and nothing of
+//!   the session or the UUID.
+//! - The first journal is done again once more where the second can't be. Where a boot has no application of the
+//!   group's UUID, both are checked.
+//! - Both logs are compared as they are read, and only what one log has more than the other is kept (`Compares`). That
+//!   is proved once, for whatever reads a log off a journal (`ReadsLog`), as the readers of a session and of a group
+//!   do.
+//! - Events, applications and images are compared field by field, and the functions that do so say that they are the
+//!   same exactly where they are equal.
+//! - At Same the replies are equal in both, by the law of `compare_model` (`same_replies`).
 #![tactic(auto)]
 
 mod apart;
