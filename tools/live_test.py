@@ -504,11 +504,11 @@ def try_memory(tests):
 
 
 def refuse_each(tests, case, library):
-    """A refusal ends the program with 6. For the bytes of a line `write` memory is asked for once more, so once for each such line it may
-    go on as if none was refused."""
+    """A refusal ends the program with 6. For the words of the command line and for the bytes of a line `write` memory is asked for once
+    more, so once, and once for each such line, it may go on as if none was refused."""
     answers = answers_of(case)
     fronts, whole = [b"".join(answers[:count]) for count in range(len(answers) + 1)], b"".join(answers)
-    writes = sum(line.startswith("write ") for line, _ in case.turns)
+    asked_again = 1 + sum(line.startswith("write ") for line, _ in case.turns)
     request, is_refused = 0, True
     while is_refused:
         request += 1
@@ -517,9 +517,9 @@ def refuse_each(tests, case, library):
         done = subprocess.run([tests.path], **run_once)
         is_refused = b"refused\n" in done.stderr
         went_on = (done.returncode, done.stdout) == (0, whole)
-        writes -= is_refused and went_on
+        asked_again -= is_refused and went_on
         has_ended = is_refused and done.returncode == 6 and done.stdout in fronts
-        tests.same(f"{case.name}, memory request {request}, {done.returncode}", has_ended or went_on and writes >= 0, True)
+        tests.same(f"{case.name}, memory request {request}, {done.returncode}", has_ended or went_on and asked_again >= 0, True)
     print(f"{case.name}: {request - 1} requests for memory, each refused once")
 
 
