@@ -3,7 +3,7 @@
 
 All is done in a folder of its own, in an environment that /usr/bin/python3 makes, and without a network. It needs Debian's packages that
 python/README.md names. The untrusted world of the examples has to find each core of examples/wrong_core.py, to shrink what shows it, and what
-was said has to be kept; and a test whose core can't be booted has a line that says why. The program is what `rt run` has built in
+was said has to be kept; a test whose core can't be booted has a line that says why, and so has one whose core can't be kept. The program is what `rt run` has built in
 crates/optee_live, or FILE.
 Status: 0 where all is as wanted, 1 where something isn't, 2 at other words, or where a package is missing.
 usage: package_test.py [live=FILE]
@@ -57,6 +57,15 @@ WRONG_MARKERS = {
     "applications={ADD: b'OT'}": "bad image",
     "'nowhere.txt'": "nowhere.txt: No such file or directory",
 }
+
+# A test that fails, among others, each with a core.
+UNKEPT = """
+import pytest
+
+@pytest.mark.parametrize("number", range(6))
+def test_threads(core, number):
+    assert core.smc(0, [0xB200000F])[1] == (5 if number == 3 else 4)
+"""
 
 # Of each wrong core what comes and what is wanted, and with how many steps of the world at most that is shown; the least are 3, 4 and 1.
 BY_ITSELF = "result"
@@ -140,6 +149,18 @@ def check_unbooted(bench, comparison):
         comparison.same(f"unbooted: {path}", (status, bool(re.search(f"no core is booted: .*/{name} (has|doesn't)", told))), (1, True))
 
 
+def check_unkept(bench, comparison):
+    """A test that fails where nothing can be kept fails all the same, on one processor and on several, and the report says why nothing is."""
+    (bench.folder / "test_unkept.py").write_text(UNKEPT)
+    (bench.folder / "a_file").touch()
+    for words in (["-p", "no:xdist"], *[["-n", "2"]] * 4):
+        status, told = bench.pytest("-q", *words, "--core-kept", "a_file", "test_unkept.py")
+        totals = re.findall(r"\d+ failed, \d+ passed", told)
+        comparison.same(f"unkept, {words}", (status, totals, "INTERNALERROR" in told), (1, ["1 failed, 5 passed"], False))
+        comparison.same(f"unkept, {words}: why", re.findall(r"core \(not kept: \S*/a_file[^:]*: ([^)]*)\)", told), ["Not a directory"])
+        comparison.same(f"unkept, {words}: what was said", "> smc 0 " in told, True)
+
+
 def check_wrong_cores(bench, comparison):
     """The untrusted world over wrong cores."""
     for mistake, (told_wrong, most) in WRONG.items():
@@ -179,7 +200,7 @@ def main(words):
         comparison.same("pip install", told, None)
         comparison.same("what pip leaves", sorted(bench.folder.iterdir()), [path for path in before if path.name != "tulgexar"])
         if told is None:
-            for check in (check_commands, check_examples, check_unbooted, check_wrong_cores):
+            for check in (check_commands, check_examples, check_unbooted, check_unkept, check_wrong_cores):
                 check(bench, comparison)
     print(f"{comparison.compared} compared, {comparison.differing} differ")
     return 1 if comparison.differing else 0

@@ -11,7 +11,8 @@ The program is --core-program FILE, that of the description, TULGEXAR_LIVE of th
 
 Of a test that fails stand in --core-kept FOLDER (failed-cores), in a folder of the test's name: `core.log`, what was said, and what it
 means; `core.trace`, which the program `run` plays again; and `core.svg`, a picture of it, or where it is long `core.json`, for a viewer of
-Chrome's or Perfetto's traces. Of several cores those that the test had left open are kept, and the last one that it has closed.
+Chrome's or Perfetto's traces. Of several cores those that the test had left open are kept, and the last one that it has closed. Where nothing
+can be written there, the report says so, beside what was said last.
 """
 
 import pathlib
@@ -99,9 +100,13 @@ class Cores:
         folder = pathlib.Path(self.config.rootpath, self.config.getoption("core_kept"), file_name(self.item.nodeid))
         for number, core in enumerate(cores, 1):
             name = "core" if number == 1 else f"core-{number}"
-            folder.mkdir(parents=True, exist_ok=True)
-            lines = keep(core, folder / name)
-            yield f"{name} ({folder / name}.log)", "\n".join(lines[-SHOWN:])
+            lines, place = lines_of(core), f"{folder / name}.log"
+            try:
+                folder.mkdir(parents=True, exist_ok=True)
+                keep(core, lines, folder / name)
+            except OSError as error:  # the test has failed all the same
+                place = f"not kept: {error.filename or folder}: {error.strerror}"
+            yield f"{name} ({place})", "\n".join(lines[-SHOWN:])
 
 
 def path_of(marker: pytest.Mark) -> Any:
@@ -124,7 +129,7 @@ class Kept(Core):
             self.cores.forget(self)
         status = super().close()
         if status:
-            raise live.Over(status, self.file)
+            raise live.Over(status, self.file, self.is_known)
         return status
 
 
@@ -133,10 +138,14 @@ def file_name(name: str) -> str:
     return re.sub(r"[^\w.\[\]-]+", "-", name)[-150:]
 
 
-def keep(core: Core, path: pathlib.Path) -> list[str]:
-    """Keeps what was said with a core in files of a name: the lines of its log."""
+def lines_of(core: Core) -> list[str]:
+    """What was said with a core, and what it means, line by line."""
     notes = live.Notes()
-    lines = [part for line, answer in core.turns for part in notes.told(line, answer)]
+    return [part for line, answer in core.turns for part in notes.told(line, answer)]
+
+
+def keep(core: Core, lines: list[str], path: pathlib.Path) -> None:
+    """Keeps what was said with a core, of which these are the lines, in files of a name. A picture that can't be drawn is told behind them."""
     taken = [(line, answer.lines) for line, answer in core.turns if answer.ending == "ok" and live.is_of_trace(line)]
     log = live.Log(path.with_suffix(".trace"))
     for line, _ in taken:
@@ -147,7 +156,6 @@ def keep(core: Core, path: pathlib.Path) -> list[str]:
     except NO_PICTURE as cause:
         lines.append(f"no picture: {cause}")
     path.with_suffix(".log").write_text("".join(f"{line}\n" for line in lines), encoding="utf-8")
-    return lines
 
 
 def draw(path: pathlib.Path, trace: str, output: str) -> None:
