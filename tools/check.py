@@ -584,10 +584,11 @@ def check_threads(comparison):
             other = text.replace(f"#= {line}", f"#= {line[:-1]}x", 1)
             comparison.same(f"bench_test.py by threads, {cpu} {number}", len(told_of("x.threads", other, Printer(output))) > 2, True)
     with tempfile.TemporaryDirectory() as folder:
-        for name in ("a.trace", "a.threads", "b.threads"):
-            pathlib.Path(folder, name).touch()
+        texts = {"a.trace": "", "a.threads": "cpu 0\n", "b.threads": "", "c.trace": "", "c.threads": trace, "d.trace": "", "d.threads": "bad trace 1 cut\n"}
+        for name, content in texts.items():
+            pathlib.Path(folder, name).write_text(content, encoding="latin-1")
         found = [pathlib.Path(path).name for path in bench_test.paths_of([folder])]
-        comparison.same("bench_test.py: tests of a folder", found, ["a.trace", "b.threads"])
+        comparison.same("bench_test.py: tests of a folder", found, ["a.trace", "b.threads", "c.threads", "c.trace", "d.trace"])
 
 
 def prints(line, cpu):

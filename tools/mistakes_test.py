@@ -37,7 +37,7 @@ class Bench:
         self.names = {"$RUN": str(runner), "$LIVE": str(talker), "$TOOLS": str(FOLDER), "$TOP": str(shipped.ROOT), "$PWD": str(folder)}
         for name, text in mistakes.FILES.items():
             path = folder / name
-            path.parent.mkdir(exist_ok=True)
+            path.parent.mkdir(parents=True, exist_ok=True)
             path.write_bytes(self.content(text))
         for name in mistakes.EXECUTABLE:
             (folder / name).chmod(0o700)

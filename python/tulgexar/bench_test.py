@@ -1,16 +1,18 @@
 """Runs tests of a bench: traces, traces with signals, scripts of clients, conversations and journals, whose comments hold wanted lines.
 
-What a file is, the end of its name says. A folder's files of these names are run, in the order of their names:
+What a file is, the end of its name says. Of a folder, and of the folders in it but for those whose names begin with a dot, the files of these
+names are run, in the order of their names:
     .trace .script   a trace, or a script from which lift.py makes one; by the word `run`
     .threads         the same by `threads`, whose lines may come in another order each time: `..` leaves out their places. In a folder
-                     NAME.threads beside NAME.trace is what `threads` has printed of that, and no test
+                     NAME.threads beside NAME.trace is no test where it begins as what `threads` prints, with `cpu` or `bad trace`
     .signals         a trace with signals, or such a script; by `notify`
     .client          a script of a client; by `client`. Of a call that has ended in a panic stand the code and the place, as the machine's
                      tables have them, and by the map beside the image's file the function, file and line of the source
     .lines           a conversation, as live.py takes it with `script`, and where a line `#! serve` stands, with `serve`
     .journal         the bytes of a journal; `audit` has to find it legal
 A file in which no line is one of a script alone (a name, `$NAME`, a function or an operand by its name) is run as it is, byte by byte, whatever
-its name, but for .script. Another comment that begins with `#!` or `# =` is refused: it looks like one of a test.
+its name, but for .script. Another comment that begins with `#!`, `#:`, `# =` or `# :` is refused: it looks like one of a test; and so is a
+wanted line of `..` alone, which any line would fit.
 A comment `#= LINE` behind an item says what the item has to print, `#= = NOTE` what annotate.py has to say of that, and `#= : NOTE` what it
 has to say of a call as it enters; each may stand once behind an item. `..` at the end leaves out what follows. a0 of a line `ret`, and result
 and origin of a client's line, may be names of docs/formats.md. Of a call that is served it is the last answer; a conversation's line that is
@@ -22,8 +24,11 @@ answered otherwise than by `ok` has to be wanted so, as `#= bad KIND`:
     #= = ret SUCCESS; origin TRUSTED_APP
 Each file has a line, and below it stand its failures: file and number of the line, what was wanted and what came, both as annotate.py
 explains them, and what differs by its name. At the end is a total. --junit and --json write the same for other programs, also where the core's
-program ends amid a file: the others are run all the same. The programs are FILE, those that TULGEXAR_RUN and, for conversations, TULGEXAR_LIVE
-name, or what `rt run` has built in crates/optee_run and crates/optee_live. -j N runs so many files at once.
+program ends amid a file: the others are run all the same. A file without a wanted line is a case that JUnit has as skipped. JSON has the list
+`cases`, each with its `path`, how many lines were `compared`, its `seconds`, and the list `failures`: `place` is the number of the line, or 0,
+`text` the line, `wanted` and `got` are lists of lines, `differs` is a text; and the totals `failed`, `compared` and `unwanted`, the cases without
+a wanted line. The programs are FILE, those that TULGEXAR_RUN and, for conversations, TULGEXAR_LIVE name, or what `rt run` has built in
+crates/optee_run and crates/optee_live. -j N runs so many files at once.
 
 Status: 0 where all is as wanted, 1 where something isn't, 2 at other words, 5 where no line was compared.
 usage: bench_test.py [program=FILE] [live=FILE] [-j N] [--junit FILE] [--json FILE] FILE|FOLDER..
@@ -39,7 +44,7 @@ import sys
 import time
 import xml.etree.ElementTree
 
-from tulgexar import client, formats, lift, live, places, plays, program, wanted_lines
+from tulgexar import client, explain, formats, journal, lift, live, places, plays, program, wanted_lines
 from tulgexar.wanted_lines import Failure, Printed
 from tulgexar.words import BadWords, behind, lines_of, number, plain, print_no_more, run, text_of, write_text
 
@@ -74,7 +79,7 @@ def play(path, word, runner):
     if refused:
         return 0, [refused]
     if done.status:
-        return 0, [Failure(0, "", got=[f"{runner.file} {program.how_ended(done.status)}: is it the program of crates/optee_run?"])]
+        return 0, [Failure(0, "", got=[program.wrong_end(runner.file, "optee_run", done.status)])]
     try:
         printed = printed_by(trace, lines, done.output)
     except plays.Mismatch as mismatch:
@@ -182,7 +187,9 @@ def converse(path, talker):
     try:
         printed, failures, end = held(talk, text, found)
     finally:
-        talk.talk.close()
+        status = talk.talk.close()
+    if status and end > len(lines):  # it has answered all, and ends wrongly
+        failures.append(Failure(0, "", got=[str(live.Over(status, talk.talk.file, talk.talk.is_known))]))
     found = [one for one in found if one.place < end]
     failures += wanted_lines.differing_lines(printed, found)
     return len(found), sorted(failures, key=lambda failure: failure.place)
@@ -234,9 +241,20 @@ def is_of(turn, first):
 
 def audited(path, runner):
     """Audits a journal."""
-    done = runner.run(["audit"], pathlib.Path(path).read_bytes().decode("latin-1"))
-    line = done.output.strip()
-    return 1, [] if line.startswith("legal") else [Failure(0, "", ["legal"], [line or f"status {done.status}"])]
+    data = text_of(path).encode("latin-1")
+    said = journal.verdict_of(runner, ["audit"], data)
+    return 1, [] if said.startswith("legal ") else [Failure(0, "", ["legal"], [f"{said}: {reason_of(said, data)}"])]
+
+
+def reason_of(said, data):
+    """Why a journal isn't legal, in short."""
+    if said.startswith("illegal "):
+        return "explain.py says why"
+    try:
+        explain.parted(data)
+    except plays.Mismatch as mismatch:
+        return str(mismatch)
+    return formats.FAULTS.get(said.split(" ")[-1], "no known kind")
 
 
 def tested(path, programs, suffix=None):
@@ -267,6 +285,11 @@ def lines_on(case):
     return [plain(line) for line in lines]
 
 
+def has_compared_nothing(case):
+    """Whether a file was run in which no line is wanted."""
+    return not case.compared and not case.failures
+
+
 def as_json(cases):
     """The cases as JSON."""
     keys = ("place", "text", "wanted", "got", "differs")
@@ -274,28 +297,31 @@ def as_json(cases):
         {"path": case.path, "compared": case.compared, "seconds": round(case.seconds, 3), "failures": [dict(zip(keys, failure)) for failure in case.failures]}
         for case in cases
     ]
-    return json.dumps({"cases": told_cases, "failed": sum(bool(case.failures) for case in cases)}, indent=2) + "\n"
+    totals = {"failed": sum(bool(case.failures) for case in cases), "compared": sum(case.compared for case in cases)}
+    return json.dumps({"cases": told_cases, **totals, "unwanted": sum(map(has_compared_nothing, cases))}, indent=2) + "\n"
 
 
 def as_junit(cases):
     """The cases as JUnit's XML."""
-    count = str(sum(bool(case.failures) for case in cases))
-    suite = xml.etree.ElementTree.Element("testsuite", name="bench", tests=str(len(cases)), failures=count, errors="0")
+    count, skipped = str(sum(bool(case.failures) for case in cases)), str(sum(has_compared_nothing(case) for case in cases))
+    suite = xml.etree.ElementTree.Element("testsuite", name="bench", tests=str(len(cases)), failures=count, errors="0", skipped=skipped)
     for case in cases:
         path = pathlib.Path(case.path)
         element = xml.etree.ElementTree.SubElement(suite, "testcase", classname=str(path.parent), name=path.name, time=f"{case.seconds:.3f}")
-        if case.failures:
+        if has_compared_nothing(case):
+            xml.etree.ElementTree.SubElement(element, "skipped", message="no line was compared")
+        elif case.failures:
             lines = lines_on(case)
             xml.etree.ElementTree.SubElement(element, "failure", message=lines[1]).text = "\n".join(lines[1:])
     return xml.etree.ElementTree.tostring(suite, encoding="unicode", xml_declaration=True) + "\n"
 
 
 def paths_of(names):
-    """The files that the words name, those of a folder in the order of their names."""
+    """The files that the words name, those of a folder and of the folders in it in the order of their names."""
     for name in names:
         path = pathlib.Path(name)
         if path.is_dir():
-            files = [str(file) for file in sorted(path.iterdir()) if file.suffix in WORDS and not is_output(file)]
+            files = [str(file) for file in files_in(path) if file.suffix in WORDS and not is_output(file)]
             if not files:
                 print(f"{name} has no test: no name there ends with one of {' '.join(WORDS)}", file=sys.stderr)
             yield from files
@@ -307,9 +333,23 @@ def paths_of(names):
             yield name
 
 
+def files_in(folder, seen=()):
+    """The files of a folder and of the folders in it, but for those whose names begin with a dot, and those around it."""
+    try:
+        paths = sorted(folder.iterdir())
+    except OSError as error:
+        raise BadWords(f"{folder}: {error.strerror}") from error
+    seen = (*seen, folder.resolve())
+    for path in paths:
+        if not path.is_dir():
+            yield path
+        elif not path.name.startswith(".") and path.resolve() not in seen:
+            yield from files_in(path, seen)
+
+
 def is_output(path):
-    """Whether a file is what `threads` has printed of the trace beside it."""
-    return path.suffix == ".threads" and path.with_suffix(".trace").is_file()
+    """Whether a file is what `threads` has printed of the trace beside it: a test begins otherwise."""
+    return path.suffix == ".threads" and path.with_suffix(".trace").is_file() and text_of(path).startswith(("cpu ", "bad trace "))
 
 
 def cases_of(paths, programs, jobs):
@@ -361,7 +401,7 @@ def told_cases(cases):
 def status_of(cases):
     """Tells the total. The status."""
     count, failed = sum(case.compared for case in cases), sum(bool(case.failures) for case in cases)
-    unwanted = sum(not case.compared and not case.failures for case in cases)
+    unwanted = sum(map(has_compared_nothing, cases))
     print(f"{len(cases)} cases, {failed} failed, {count} lines compared{f'; {unwanted} without a wanted line' if unwanted else ''}")
     if not count and not failed:
         if cases:

@@ -1,8 +1,8 @@
 """Runs scripts of a client as tests: those cases of bench_test.py, whatever their names.
 
 SCRIPT is a script for the word `client`, or one from which lift.py makes such a script, so that an image may be named by its
-file; `-` is standard input. FOLDER has several, whose names end with `.client`. A comment line `#= LINE`, behind a call, says what the call
-has to print; result and origin may be names of docs/formats.md:
+file; `-` is standard input. FOLDER has several, also in folders in it, whose names end with `.client`. A comment line `#= LINE`, behind a call,
+says what the call has to print; result and origin may be names of docs/formats.md:
     invoke s 0 vio:5:7
     #= invoke s SUCCESS TRUSTED_APP v:0000000c:00000000
 A call without such a line may print anything. What is printed and the status are those of bench_test.py. The program is
@@ -23,7 +23,7 @@ def scripts_of(names):
     """The scripts that the words name, those of a folder in the order of their names."""
     for name in names:
         folder = pathlib.Path(name)
-        yield from map(str, sorted(folder.glob(f"*{SUFFIX}"))) if folder.is_dir() else [name]
+        yield from (str(path) for path in bench_test.files_in(folder) if path.suffix == SUFFIX) if folder.is_dir() else [name]
 
 
 def main(words):

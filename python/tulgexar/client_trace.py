@@ -7,7 +7,8 @@ of it; each RPC return has its number, which is the K of `cancel:K`.
 steps=N grants N steps to each entry in the place of 10,000, so with 1 each step of an application is an SMC. A call that is interrupted
 returns once more, so a K names another return then. A cancel before a return that has not come is told on standard error.
 The program is FILE, the one that TULGEXAR_LIVE names, or what `rt run` has built in crates/optee_live.
-Status: 0; 1 where a line of the script isn't of its form, or the core refuses an entry; 2 at other words.
+Status: 0; 1 where a line of the script isn't of its form, the core refuses an entry, or its program ends otherwise than with 0; 2 at other
+words.
 usage: client_trace.py [program=FILE] [steps=N] SCRIPT
 """
 
@@ -224,6 +225,7 @@ def main(words):
         with live.Conversation(talker, heard=shown) as talk:
             for missed in play(lines, talk, steps):
                 print(f"client_trace.py: {missed}", file=sys.stderr)
+            talk.finish()
     except (lift.Fault, live.Over, live.NoConversation) as fault:
         print(f"client_trace.py: {plain(str(fault))}", file=sys.stderr)
         return 1

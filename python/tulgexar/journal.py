@@ -1,10 +1,11 @@
 """A journal's records, told one by one, by docs/formats.md, "Journal". It isn't run by itself."""
 
 import collections
+import re
 import struct
 import uuid
 
-from tulgexar import calls, plays
+from tulgexar import calls, plays, program
 
 MAGIC, END = b"OTTJ", 0x7F
 REGISTERS = struct.Struct("<8I")
@@ -12,6 +13,22 @@ REGISTERS = struct.Struct("<8I")
 
 class NoJournal(plays.Mismatch):
     """Bytes that don't begin as a journal."""
+
+
+# How a verdict on journals begins, by the word that gives it, and the status at which one is given: `bad trace` has its own.
+VERDICTS = {"audit": "legal [0-9]+|illegal [0-9]+", "compare": "illegal [12] [0-9]+|absent [12]|other|events [0-9]+|same [0-9]+"}
+REFUSED = 3
+
+
+def verdict_of(runner, words, data):
+    """The verdict that the program gives on journals by these words. A Mismatch where it gives none, writes more, or ends otherwise."""
+    done = runner.run(words, data.decode("latin-1"))
+    if done.status not in (0, REFUSED):
+        raise plays.Mismatch(program.wrong_end(runner.file, "optee_run", done.status))
+    form = "bad trace [0-9]+ [a-z]+" if done.status else VERDICTS[words[0]]
+    if not re.fullmatch(f"(?:{form})\n", done.output):
+        raise plays.Mismatch(f"{runner.file} isn't the program of crates/optee_run: it doesn't {words[0]}")
+    return done.output.removesuffix("\n")
 
 
 class Reader:

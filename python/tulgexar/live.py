@@ -20,9 +20,9 @@ line of a call.
 
 A line that can't be sent, as it isn't of a script's form, is told with its number on standard error, at a terminal below it; the conversation
 goes on.
-Status: that of the program, which is 0 where its input is over; 1 where it ends before with 0, gives no answer within 60 seconds, or answers
-otherwise than a conversation, where a line of an input can't be sent, or the core refuses what it is booted with; 2 at other words, or a
-description that is wrong.
+Status: that of the program, as a shell has it, which is 0 where its input is over; 1 where it ends before with 0, gives no answer within 60
+seconds, or answers otherwise than a conversation, where a line of an input can't be sent, or the core refuses what it is booted with; 2 at other
+words, or a description that is wrong.
 usage: live.py [program=FILE] [boot=FILE] [log=FILE] [script] [serve] [notes]
 """
 
@@ -186,6 +186,12 @@ class Conversation:
             pass
         self.process.stdout.close()
         return self.ended()
+
+    def finish(self) -> None:
+        """Ends the input, behind which the program has to end with status 0, or it is Over."""
+        status = self.close()
+        if status:
+            raise Over(status, self.file, self.is_known)
 
     def send(self, line: str) -> Answer:
         """Sends a line, and reads its answer."""
@@ -526,7 +532,7 @@ class Prompt(Notes):
             yield self.typed
 
     def hold(self, described=None):
-        """Holds the conversation to its end, with a core that is booted by a description where there is one. The status."""
+        """Takes the lines of the reader, with a core that is booted by a description where there is one. The status."""
         try:
             if described:
                 self.talk.boot(described)
@@ -539,13 +545,20 @@ class Prompt(Notes):
             kind = refused.ending.partition(" ")[2]
             print(f"live.py: the core isn't booted: {plain(str(refused))}: {fault_of(refused.line, kind)}", file=sys.stderr)
             self.has_refused = True
+        return int(self.has_refused)
+
+    def held(self, described=None):
+        """Holds the conversation, and ends it. The status."""
+        try:
+            status = self.hold(described)
+            self.talk.finish()
         except Over as over:
             print(f"live.py: {over}", file=sys.stderr)
-            return over.status or 1
+            return program.status_of(over.status) or 1
         except NoConversation as wrong:
             print(f"live.py: {wrong}", file=sys.stderr)
             return 1
-        return self.talk.close() or int(self.has_refused)
+        return status
 
     def refuse(self, place, text, error):
         """Says why a line can't be sent: at a terminal below it, else with its number."""
@@ -591,7 +604,7 @@ def main(words):
         prompt = Prompt(file or described and described.program, words, log)
     except OSError as error:
         raise BadWords(f"{log}: {error.strerror}") from error
-    return prompt.hold(described)
+    return prompt.held(described)
 
 
 if __name__ == "__main__":

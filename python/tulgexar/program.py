@@ -15,6 +15,10 @@ CRATES = pathlib.Path(__file__).resolve().parents[2] / "crates"  # in a clone
 # The variables of the environment that name programs.
 VARIABLES = {"optee_run": "TULGEXAR_RUN", "optee_live": "TULGEXAR_LIVE"}
 
+# The statuses that the core's own programs have at an input that is in order (README.md, "Use").
+NO_MEMORY, ABOVE_LIMITS = 6, 7
+MEANINGS = {NO_MEMORY: "want of memory", ABOVE_LIMITS: "the input, or what it would read, is above a limit (docs/formats.md, Limits)"}
+
 # What the program has written for some words and an input, and its status.
 Done = collections.namedtuple("Done", "output status")
 
@@ -46,6 +50,16 @@ def how_ended(status):
     if status >= 0:
         return f"has ended with status {status}"
     return f"was ended by {next((one.name for one in signal.Signals if one == -status), f'signal {-status}')}"
+
+
+def status_of(status):
+    """A status of subprocess.Popen as a shell has it, of a program that a signal has ended, too."""
+    return status if status >= 0 else 128 - status
+
+
+def wrong_end(file, name, status):
+    """What is said of a run of a program, which should be that of a crate, that has ended with another status than it has at such an input."""
+    return f"{file} {how_ended(status)}: {MEANINGS.get(status) or f'is it the program of crates/{name}?'}"
 
 
 class Program:

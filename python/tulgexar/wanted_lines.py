@@ -15,7 +15,8 @@ from tulgexar.words import BadWords
 MARK, SERVE, REST = "#=", "#! serve", ".."
 LINE, NOTE, ASKED = "", "=", ":"  # the kinds, by the mark that stands before the text
 FORMS = "`#= LINE`, `#= = NOTE`, `#= : NOTE`, and, in a conversation (.lines), `#! serve` on a line of its own"
-LIKE_ONE = re.compile(r"#!|#\s+[=!]")  # a comment that would be one of a test
+LIKE_ONE = re.compile(r"#!|#:|#\s+[=!:]")  # a comment that would be one of a test
+EMPTY = re.compile(r"#=\s*[=:]?\s*\.\.\s*")  # a wanted line that any answer would fit
 ANSWERS = {name: code for table in (formats.CODES, formats.RPCS) for code, name in table.items()}
 ORIGINS = {name: origin for origin, name in formats.ORIGINS.items()}
 
@@ -50,6 +51,8 @@ def misspelt(lines, is_conversation):
         is_own = line == SERVE and is_conversation or line.startswith("#!/") and place == 1
         if LIKE_ONE.match(line) and not is_own:
             failures.append(Failure(place, line, got=[f"this looks like a comment of a test, and is none: they are {FORMS}"]))
+        elif EMPTY.fullmatch(line):
+            failures.append(Failure(place, line, got=["nothing stands before `..`, so any line would do: what is wanted begins there"]))
     return failures
 
 
