@@ -405,7 +405,7 @@ CLIENT_TESTS = {
         [
             f"x.client:2: open s {FIRST}",
             "    wanted open s SUCESS TEE",
-            "           SUCESS is no result of docs/formats.md, and no eight digits",
+            "           SUCESS is no result of docs/formats.md, and no eight hexadecimal digits in small letters",
             "    got    open s ffff0008 00000003",
             "           = ITEM_NOT_FOUND of TEE",
         ],

@@ -121,6 +121,8 @@ def check_commands(bench, comparison):
     for command in commands:
         status, told = bench.run(bench.bin / command, "--help")
         comparison.same(f"{command} --help", (status, f"usage: {command} " in told), (0, True))
+    status, told = bench.run(bench.bin / "tulgexar-live", TULGEXAR_LIVE="")
+    comparison.same("tulgexar-live without a program", (status, "no program is named, and there is no clone around" in told), (2, True))
     given = bench.run(bench.bin / "tulgexar-live", text="boot 1 1 1\nleave 0\n")
     comparison.same("tulgexar-live", given, (0, "> boot 1 1 1\n< ok\n> leave 0\n< bad inside\n"))
     comparison.same("a bench", bench.run(bench.bin / "python", "-c", BENCH), (0, TOLD))

@@ -36,6 +36,7 @@ COMMANDS = {name: number for number, name in formats.COMMANDS.items()}
 ATTRIBUTES = {name: attribute for attribute, name in formats.KINDS.items()}
 RESULTS = {name: result for result, name in formats.RESULTS.items()}
 OPTIONS = {"client": uuid, "login": number, "id": number}
+OPERANDS = {"client": "UUID", "login": "N", "id": "N"}  # what stands behind an option
 RET_AT = 4 * formats.HEAD.index("ret")
 
 
@@ -140,7 +141,7 @@ def options_of(words, names):
     options = {}
     while words and words[0] in names:
         name = words.pop(0)
-        options[name] = take(words, OPTIONS[name])
+        options[name] = take(words, OPTIONS[name], f"{OPERANDS[name]} behind {name}")
     return options
 
 

@@ -44,9 +44,9 @@ import sys
 import time
 import xml.etree.ElementTree
 
-from tulgexar import client, explain, formats, journal, lift, live, places, plays, program, wanted_lines
+from tulgexar import client, explain, journal, lift, live, places, plays, program, wanted_lines
 from tulgexar.wanted_lines import Failure, Printed
-from tulgexar.words import BadWords, behind, lines_of, number, plain, print_no_more, run, text_of, write_text
+from tulgexar.words import BadWords, behind, lines_of, number, plain, print_no_more, refuse_options, run, text_of, write_text
 
 WORDS = {".trace": "run", ".script": "run", ".threads": "threads", ".signals": "notify", ".client": "client", ".lines": None, ".journal": "audit"}
 NO_CASE = 5
@@ -115,7 +115,7 @@ def refusal_of(done, trace):
     number, kind = int(bad[1]), bad[2]
     place, line = trace.lines[number - 1] if 0 < number <= len(trace.lines) else (0, "")
     hint = "; registers may be left out in a file NAME.script" if kind == "count" and line.startswith(("smc ", "enter ")) else ""
-    return Failure(place, f"{line:.80}", got=[f"bad trace, {kind}: {formats.FAULTS.get(kind, 'no known kind')}{hint}"])
+    return Failure(place, f"{line:.80}", got=[f"bad trace, {kind}: {plays.fault_of(kind, line)}{hint}"])
 
 
 def printed_by(trace, lines, output):
@@ -254,7 +254,7 @@ def reason_of(said, data):
         explain.parted(data)
     except plays.Mismatch as mismatch:
         return str(mismatch)
-    return formats.FAULTS.get(said.split(" ")[-1], "no known kind")
+    return plays.fault_of(said.split(" ")[-1])
 
 
 def tested(path, programs, suffix=None):
@@ -268,7 +268,7 @@ def tested(path, programs, suffix=None):
         else:
             count, failures = play(path, WORDS[suffix], program.Program(programs.runner))
     except lift.Fault as fault:
-        count, failures = 0, [Failure(fault.place, fault.line, got=[fault.cause])]
+        count, failures = 0, [Failure(fault.place, f"{fault.line:.80}", got=[fault.cause])]
     except (BadWords, plays.Mismatch, live.Over, live.NoConversation) as fault:
         count, failures = 0, [Failure(0, "", got=[str(fault)])]
     return Case(path, count, failures, time.monotonic() - begun)
@@ -368,6 +368,7 @@ def main(words):
     jobs = number(options["-j"] or "1")
     if not jobs:
         raise BadWords("-j 0: at least one file is run at once")
+    refuse_options(words, "-j N, --junit FILE, --json FILE, program=FILE, live=FILE")
     if not words:
         eaten = [f"; {word} stands behind {option}, which takes {OPTIONS[option]}" for option, word in options.items() if word]
         raise BadWords(f"no FILE or FOLDER is left to run{''.join(eaten[-1:])}")

@@ -26,7 +26,7 @@ import re
 import sys
 
 from tulgexar import calls, formats, plays, program, story
-from tulgexar.words import BadWords, behind, plain, run, text_of, write_text
+from tulgexar.words import BadWords, behind, plain, refuse_options, run, text_of, write_text
 
 LEFT, INSIDE, OUTSIDE, BAND = 76, 96, 16, 980
 LANE, SLOT, TITLE, GAP = 74, 22, 16, 22
@@ -211,7 +211,7 @@ def played(trace, runner):
     output = done.output
     refuse_refused(output)
     if done.status:
-        raise plays.Mismatch(f"the program {runner.file} has ended with status {done.status}")
+        raise plays.Mismatch(program.wrong_end(runner.file, "optee_run", done.status))
     try:
         plays.lay_out(trace, output)
     except plays.Mismatch as mismatch:
@@ -243,7 +243,7 @@ def refuse_refused(output):
     """A Mismatch where a play was refused."""
     bad = re.fullmatch(r"bad trace (\d+) (\w+)\n", output)
     if bad:
-        raise plays.Mismatch(f"line {bad[1]}: the trace was refused, {bad[2]}: {formats.FAULTS.get(bad[2], 'no known kind')}")
+        raise plays.Mismatch(f"line {bad[1]}: the trace was refused, {bad[2]}: {plays.fault_of(bad[2])}")
 
 
 PROCESSORS, SLOTS = 1, 2  # as processes of a viewer
@@ -279,6 +279,7 @@ def named(kind, group, row, name):
 def main(words):
     words = list(words)
     file, viewed = program.taken_from(words), behind(words, "--perfetto")
+    refuse_options(words, "--perfetto FILE, program=FILE")
     if not words and viewed:
         raise BadWords(f"no TRACE is left: {viewed} stands behind --perfetto, which takes the file to write")
     if len(words) not in (1, 2):

@@ -14,7 +14,7 @@ import pathlib
 import sys
 
 from tulgexar import bench_test, program
-from tulgexar.words import BadWords, run
+from tulgexar.words import BadWords, refuse_options, run
 
 SUFFIX = ".client"
 
@@ -29,6 +29,7 @@ def scripts_of(names):
 def main(words):
     words = list(words)
     file = program.taken_from(words)
+    refuse_options(words, "program=FILE")
     if not words:
         raise BadWords()
     programs = bench_test.Programs(program.found("optee_run", file), None)

@@ -19,7 +19,7 @@ import struct
 import sys
 
 from tulgexar import arg, calls, client, formats, lift, live, machine, plays, program
-from tulgexar.words import BadWords, number, plain, run, text_of, uuid
+from tulgexar.words import BadWords, number, plain, refuse_options, run, text_of, uuid
 
 ARGUMENT, CANCEL, BUFFER, COOKIE = formats.RAM_START, 0x4000_1000, 0x4001_0000, 1
 MEMORY, MEMORY_BYTES = 0x4010_0000, 0x1_0000  # of parameter 0, and apart from the next
@@ -217,6 +217,7 @@ def main(words):
     file, steps = program.taken_from(words), number(program.taken_from(words, "steps") or str(client.GRANT))
     if not 1 <= steps <= live.MOST_STEPS:
         raise BadWords(f"steps={steps} isn't from 1 to {live.MOST_STEPS}")
+    refuse_options(words, "program=FILE, steps=N")
     if len(words) != 1:
         raise BadWords("one SCRIPT is wanted; - is standard input" if not words else f"{words[1]} is one word too many")
     talker, text = program.found("optee_live", file), text_of(words[0])

@@ -61,11 +61,12 @@ def changed(
     their UUIDs."""
     for name, value in settings.items():
         description.refuse_setting(name, value)
-    told = dict(described.applications)
+    told, places = dict(described.applications), dict(described.places)
     for name, data in (applications or {}).items():
         uuid(name)
+        places.pop(name.lower(), None)
         told[name.lower()] = data.hex() if isinstance(data, bytes) else image.digits_of(pathlib.Path(folder, data)).hex()
-    return dataclasses.replace(described, applications=told, **settings)
+    return dataclasses.replace(described, applications=told, places=places, **settings)
 
 
 class Core(Conversation):

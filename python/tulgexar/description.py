@@ -45,6 +45,7 @@ class Description:
     steps: int = 100_000  # that one entry is granted
     limit: int = 10_000  # milliseconds
     has_history: bool = False
+    places: dict[str, str] = dataclasses.field(default_factory=dict, compare=False, repr=False)  # UUID: the file and the line
 
     def lines(self) -> Iterator[str]:
         """The lines that boot the core, without the one for its history."""
@@ -59,7 +60,7 @@ class Reading:
     """A description that is read, up to a line."""
 
     def __init__(self, path):
-        self.folder = path.parent
+        self.path, self.folder, self.place = path, path.parent, 0
         self.described, self.images, self.seen = Description(), {}, set()
 
     def take(self, line):
@@ -107,6 +108,7 @@ class Reading:
         if digits is None:
             raise Wrong("a name of no image", image)
         applications[uuid.lower()] = digits_of(digits, image)
+        self.described.places[uuid.lower()] = f"{self.path}:{self.place}"
 
     def key(self, digits):
         if not is_key(digits):
@@ -166,7 +168,7 @@ def number(word, setting):
 
 def refuse_setting(name: str, value: object) -> None:
     """BadWords at a setting of a Description that there isn't, or whose value isn't of its kind, but for applications."""
-    names = [field.name for field in dataclasses.fields(Description)]
+    names = [field.name for field in dataclasses.fields(Description) if field.name != "places"]
     if name not in names:
         raise BadWords(f"{name} is no setting of a core: they are {', '.join(names)}")
     if name in MOST and (type(value) is not int or not 1 <= value <= MOST[name]):
@@ -220,6 +222,7 @@ def read(path: str | os.PathLike[str]) -> Description:
         raise Fault(f"{path}: {error.strerror}") from error
     reading = Reading(path)
     for place, line in enumerate(text.split("\n"), 1):
+        reading.place = place
         try:
             reading.take(line)
         except Wrong as cause:

@@ -19,7 +19,7 @@ import re
 import sys
 
 from tulgexar import annotate, calls, client, formats, image, journal, plays, program
-from tulgexar.words import BadWords, plain, run, text_of, uuid
+from tulgexar.words import BadWords, plain, refuse_options, run, text_of, uuid
 
 MOST_TOLD, MOST_SHOWN = 12, 64  # events that are told of a call; characters of a part that differs
 ALL = 2**32  # more than any journal's events
@@ -309,12 +309,12 @@ def differences(one, two):
 
 
 def journals_in(names):
-    """The bytes of the journals that lie in files one behind the other, each with its end. A Mismatch names the file."""
+    """The bytes of the journals that lie in files one behind the other, each with its end, behind the file's name. A Mismatch names the file."""
     found = []
     for name in names:
         data = text_of(name).encode("latin-1")
         try:
-            found += parted(data)
+            found += [(name, part) for part in parted(data)]
         except plays.Mismatch as mismatch:
             raise plays.Mismatch(f"{name}: {mismatch}") from mismatch
     return found
@@ -335,10 +335,24 @@ def audited(words, runner):
     """The verdict on a journal, and the lines that explain it."""
     if len(words) != 1:
         raise BadWords()
-    data = b"".join(journals_in(words))
+    journals = journals_in(words)
+    data = b"".join(part for _, part in journals)
     said = journal.verdict_of(runner, ["audit"], data)
     named = re.fullmatch("illegal ([0-9]+)", said)
-    return said, explanation(data, int(named[1]), runner) if named else []
+    return said, explanation(data, int(named[1]), runner) if named else refusal_lines(said, journals)
+
+
+def refusal_lines(said, journals):
+    """The line on a record that the program refuses, whose number counts through all journals; or none at another verdict."""
+    bad = re.fullmatch("bad trace ([0-9]+) ([a-z]+)", said)
+    left = int(bad[1]) if bad else 0
+    for number, (name, data) in enumerate(journals, 1):
+        count = sum(1 for _ in journal.records(journal.Reader(data))) + 1  # the end has a number
+        if 0 < left <= count:
+            which = f"{name}, journal {number}" if len(journals) > 1 else name
+            return [f"{which}: record {left}: {formats.FAULTS.get(bad[2], 'no known kind')}"]
+        left -= count + 1  # so has the next one's magic
+    return []
 
 
 def compared(words, runner):
@@ -347,11 +361,15 @@ def compared(words, runner):
         raise BadWords()
     subject, *names = words
     if not re.fullmatch("0|[1-9][0-9]*", subject):
-        uuid(subject)
+        try:
+            uuid(subject)
+        except BadWords as error:
+            raise BadWords(f"{error}; nor a session's number: decimal digits, without a zero before them") from error
     journals = journals_in(names)
     if len(journals) != 2:
         raise plays.Mismatch(f"two journals are wanted behind compare, and {len(journals)} {'is' if len(journals) == 1 else 'are'} there")
-    return verdict(subject, b"".join(journals), runner)
+    said, lines = verdict(subject, b"".join(part for _, part in journals), runner)
+    return said, lines or refusal_lines(said, journals)
 
 
 def verdict(subject, data, runner):
@@ -371,7 +389,9 @@ def verdict(subject, data, runner):
 
 def main(words):
     words = list(words)
-    runner = program.Program(program.taken_from(words))
+    file = program.taken_from(words)
+    refuse_options(words, "program=FILE")
+    runner = program.Program(file)
     try:
         said, lines = compared(words[1:], runner) if words[:1] == ["compare"] else audited(words, runner)
     except plays.Mismatch as mismatch:

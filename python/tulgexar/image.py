@@ -135,7 +135,7 @@ def main(words):
     words = list(words)
     named = program.taken_from(words, "map")
     if words not in ([], ["comments"]):
-        raise BadWords()
+        raise BadWords(f"{words[-1]} isn't served here, or stands twice: the words are comments and map=FILE; the image comes on standard input")
     source = places.map_of(named) if named else None
     data = digits_of("-")
     refused = refusal(data)

@@ -542,8 +542,7 @@ class Prompt(Notes):
                 except (BadWords, Refused) as error:
                     self.refuse(place, text, error)
         except Refused as refused:
-            kind = refused.ending.partition(" ")[2]
-            print(f"live.py: the core isn't booted: {plain(str(refused))}: {fault_of(refused.line, kind)}", file=sys.stderr)
+            print(f"live.py: {plain(refusal_of_boot(described, refused))}", file=sys.stderr)
             self.has_refused = True
         return int(self.has_refused)
 
@@ -567,6 +566,15 @@ class Prompt(Notes):
             return
         self.has_refused = True
         print(f"live.py: line {place}: {plain(text[:80])}: {plain(str(error))}", file=sys.stderr)
+
+
+def refusal_of_boot(described, refused):
+    """What is said of a line by which a core isn't booted: of an application where its description has it, and what is wrong with its image."""
+    kind, (word, name, *_) = refused.ending.partition(" ")[2], refused.line.split(" ")
+    if word != "ta" or name not in described.places:
+        return f"the core isn't booted: {refused}: {fault_of(refused.line, kind)}"
+    why = image.refusal(bytes.fromhex(described.applications[name])) if kind == "image" else None
+    return f"{described.places[name]}: the core refuses application {name}: bad {kind}: {': '.join(why) if why else fault_of(refused.line, kind)}"
 
 
 def fault_of(line, kind):

@@ -15,6 +15,7 @@ Entry = collections.namedtuple("Entry", "number text printed note answer result 
 HEADER = ("boot", "ta", "mem", "key")
 CLIENT_CALLS = ("open", "invoke", "close")  # the calls of a client's script
 ITEMS = {*formats.LINES, "signal"} - {*HEADER}  # of a trace, which no client's script has
+JOURNAL = "OTTJ"  # begins one
 OUTPUTS = re.compile("(ret|mem|bad trace|cpu|open|invoke|close) ")  # what a play prints begins so
 RET = r"ret {}((?: [0-9a-f]{{8}}){{8}})"
 
@@ -42,6 +43,7 @@ def of_files(trace, output):
 
 def lay_out(trace, output):
     """An Entry for each line of the trace; between them they use up the output, or it is a Mismatch."""
+    refuse_journal(trace, output)
     refuse_swapped(trace, output)
     lines = list(enumerate(trace.removesuffix("\n").split("\n") if trace else [], 1))
     for place, line in lines:
@@ -68,6 +70,13 @@ def refuse_script(place, line):
     """A Mismatch where a line is one of a script for lift.py."""
     if lift.is_of_script(line):
         raise Mismatch(f"line {place} is one of a script: lift.py makes a trace of it")
+
+
+def refuse_journal(trace, output):
+    """A Mismatch where the trace or the output is a journal."""
+    for name, text in (("TRACE", trace), ("OUTPUT", output)):
+        if text.startswith(JOURNAL):
+            raise Mismatch(f"{name} is a journal, and no text: annotate.py JOURNAL tells its records, explain.py JOURNAL why it isn't legal")
 
 
 def refuse_swapped(trace, output):
@@ -147,14 +156,21 @@ def parted(lines):
     return header, own
 
 
+def fault_of(kind, line=""):
+    """What a fault of this kind is in a line, or usually is."""
+    words = line.split(" ")
+    if kind == "range" and words[0] == "boot" and words[2:3] == ["1"]:
+        return f"{formats.FAULTS[kind]}; by `client` a core has at least two threads: one is for its cancels"
+    return formats.FAULTS.get(kind, "no known kind")
+
+
 def with_fault(lines, place, output, kind):
     """The lines, with the output under the one that has the fault; that of a processor inside is behind the last."""
     number = 0
-    said = f"{kind}: {formats.FAULTS.get(kind, 'no known kind')}"
     for number, text in lines:
-        yield Entry(number, text, output, said) if number == place else Entry(number, text)
+        yield Entry(number, text, output, f"{kind}: {fault_of(kind, text)}") if number == place else Entry(number, text)
     if place > number:
-        yield Entry(place, "", output, said)
+        yield Entry(place, "", output, f"{kind}: {fault_of(kind)}")
 
 
 class Lanes:

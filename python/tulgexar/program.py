@@ -25,7 +25,7 @@ Done = collections.namedtuple("Done", "output status")
 
 def found(name, file=None):
     """The path of a program: the file that is given, or that its variable names, or what `rt run` has built in the crate of its name."""
-    file = file or os.environ.get(VARIABLES[name])
+    file = file or os.environ.get(VARIABLES[name]) or None
     how = f"`rt run` in crates/{name} builds one, and program=FILE or {VARIABLES[name]} names another"
     if file is None and not CRATES.is_dir():
         raise BadWords(f"no program is named, and there is no clone around: {how}")

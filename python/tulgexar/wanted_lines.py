@@ -121,7 +121,9 @@ def in_digits(line):
 def digits_of(word, table, what):
     """The eight digits of a word, which are its own, or those of a name in a table."""
     if word not in table and number_of(word) is None:
-        raise BadWords(f"{word} is no {what} of docs/formats.md, and no eight digits")
+        if not word:
+            raise BadWords(f"two blanks stand together, where one is printed before the {what}")
+        raise BadWords(f"{word} is no {what} of docs/formats.md, and no eight hexadecimal digits in small letters")
     return f"{table[word]:08x}" if word in table else word
 
 

@@ -86,6 +86,13 @@ def behind(words, option, what="a file"):
     return words.pop(at)
 
 
+def refuse_options(words, served):
+    """Refuses a word that looks like an option, and is no file: those that are served come first, and once."""
+    for word in words:
+        if re.match("-.|[a-z_]+=", word) and not pathlib.Path(word).exists():
+            raise BadWords(f"{word} isn't served here, or stands twice: the options are {served}")
+
+
 def plain(text):
     """A text in which control characters stand as \\xNN, so that no terminal obeys them."""
     return text.translate(CONTROLS)
