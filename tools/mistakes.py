@@ -38,6 +38,11 @@ FILES = {
     "refused.trace": "boot 1 1\n",
     "refused.out": "bad trace 1 count\n",
     "narrow.out": "bad trace 1 range\n",
+    "unsent.lines": BOOT + "smc 0 1 CALLS_UID\nsmc 0 1 CALLS\n#= bad count\n",
+    "twice.script": BOOT + "smc 0 1 CALL_WITH_ARG argument=40000000 argument=40001000\n",
+    "no_text.script": BOOT + "write 0 40000000 text\n",
+    "signal.trace": BOOT + "signal 0 1\n",
+    "few.trace": BOOT + COUNTED + "#= ret 0 OK 00000001\n",
     "wide_boot.journal": JOURNAL.replace("\x01\x01\x01\x00", "\x01\xff\x01\x00", 1),
     "narrow_test.client": "boot 1 1 1\n#= nothing\n",
     "capital.trace": BOOT + CALL + "#= ret 0 384FB3E0 ..\n",
@@ -376,6 +381,9 @@ BENCHES = [
     Mistake("bench_test.py: its outcome as JSON, where no line is wanted", "sh -c '$TOOLS/bench_test.py program=$RUN --json none.json good.trace; cat none.json'", 0, '"compared": 0,\\s*"unwanted": 1'),
     Mistake("bench_test.py: an input above a limit", "bench_test.py program=$RUN large.trace", 1, "has ended with status 7: the input.* is above a limit .docs/formats.md"),
     Mistake("bench_test.py: a client's core of one thread", "bench_test.py program=$RUN narrow_test.client", 1, "bad trace, range: .*two threads: one is for its cancels"),
+    Mistake("bench_test.py: a signal in a trace", "bench_test.py program=$RUN signal.trace", 1, "bad trace, item.*NAME.signals"),
+    Mistake("bench_test.py: a wanted line without its end", "bench_test.py program=$RUN few.trace", 1, "6 words more came, which `..` at the end would leave out"),
+    Mistake("bench_test.py: a line of a script that can't be sent", "bench_test.py live=$LIVE unsent.lines", 1, r"unsent.lines:3: .*\n    got    CALLS is no function\n1 cases"),
     Mistake("bench_test.py: digits in capitals", "bench_test.py program=$RUN capital.trace", 1, "384FB3E0 is no answer .*eight hexadecimal digits in small letters"),
     Mistake("bench_test.py: two blanks", "bench_test.py program=$RUN blanks.trace", 1, "two blanks stand together"),
     Mistake("bench_test.py: a misspelled option", "bench_test.py program=$RUN --jnit x three.trace", 2, "--jnit isn't served here.*--junit FILE"),
@@ -399,6 +407,8 @@ BENCHES = [
 ]
 
 SCRIPTS = [
+    Mistake("lift.py: an operand twice", "lift.py twice.script", 1, "line 2.*argument stands twice"),
+    Mistake("lift.py: a text is missing", "lift.py no_text.script", 1, "line 2.*a text is wanted"),
     Mistake("lift.py: no such script", "lift.py no_such", 2, "No such file"),
     Mistake("lift.py: a name that nothing has", "lift.py undefined.script", 1, "line 2.*nothing"),
     Mistake("lift.py: no such function", "lift.py function.script", 1, "line 2.*CALLS_UUID"),
@@ -466,6 +476,7 @@ MODULE = [
     Mistake("a setting of a core is misspelled", "python -c \"from tulgexar import core; core.booted(thread=2)\"", 1, "BadWords: thread is no setting of a core: they are .*threads"),
     Mistake("a program that ends", "python -c \"from tulgexar import core; core.Core(core.booted(), 'ends').ask('boot 1 1 1')\"", 1, "live.Over: .*/ends has ended with status 7"),
     Mistake("no bytes", f"python -c \"{CONVERSE}talk.write(0, 0x40000000, b'')\"", "01", "^$|Refused"),
+    Mistake("a line behind the end", f"python -c \"{CONVERSE}talk.close(); talk.ask('state')\"", 1, "live.Over: .* has ended with status 0"),
     Mistake("two lines at once", f"python -c \"{CONVERSE}talk.send('a\\nb')\"", 1, "one line at a time"),
     Mistake("a line that isn't bytes", f"python -c \"{CONVERSE}talk.send('# \\u0416')\"", 1, "ValueError|UnicodeEncodeError"),
     Mistake("an answer to a line of another kind", "python -c \"import live; print(live.registers_of(['mem 0 40000000 00']))\"", 1, "no line ret|isn't"),

@@ -114,8 +114,15 @@ def refusal_of(done, trace):
         return None
     number, kind = int(bad[1]), bad[2]
     place, line = trace.lines[number - 1] if 0 < number <= len(trace.lines) else (0, "")
-    hint = "; registers may be left out in a file NAME.script" if kind == "count" and line.startswith(("smc ", "enter ")) else ""
+    hint = hint_at(kind, line)
     return Failure(place, f"{line:.80}", got=[f"bad trace, {kind}: {plays.fault_of(kind, line)}{hint}"])
+
+
+def hint_at(kind, line):
+    """The name of a file in which a refused line could stand, or an empty text."""
+    if kind == "count" and line.startswith(("smc ", "enter ")) and not line.endswith(" "):
+        return "; registers may be left out in a file NAME.script"
+    return "; signals may come in a file NAME.signals" if kind == "item" and line.startswith("signal ") else ""
 
 
 def printed_by(trace, lines, output):
@@ -190,7 +197,8 @@ def converse(path, talker):
         status = talk.talk.close()
     if status and end > len(lines):  # it has answered all, and ends wrongly
         failures.append(Failure(0, "", got=[str(live.Over(status, talk.talk.file, talk.talk.is_known))]))
-    found = [one for one in found if one.place < end]
+    refused = {failure.place for failure in failures} - {*printed}  # what is wanted of these is no failure of its own
+    found = [one for one in found if one.place < end and one.of not in refused]
     failures += wanted_lines.differing_lines(printed, found)
     return len(found), sorted(failures, key=lambda failure: failure.place)
 

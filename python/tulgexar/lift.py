@@ -99,6 +99,8 @@ class Script:
 
     def write(self, cpu, address, *words):
         if words[:1] == ("text",):
+            if len(words) == 1:
+                raise BadWords("a text is wanted behind `text`, and no word is left")
             words = [" ".join(words[1:]).encode("latin-1").hex()]
         return [" ".join(["write", cpu, address, *words])]
 
@@ -122,11 +124,14 @@ def call(cpu, steps, function, *operands):
         raise BadWords(f"{function} is no function")
     if len(operands) == 7 and not any(is_named(operand) for operand in operands):
         return [cpu, steps, a0, *operands]
-    registers = [a0] + ["0"] * 7
+    registers, seen = [a0] + ["0"] * 7, set()
     for operand in operands:
         name, _, value = operand.partition("=")
         if name not in OPERANDS:
             raise BadWords(f"{name} is no operand: they are {', '.join(OPERANDS)}")
+        if name in seen:
+            raise BadWords(f"{name} stands twice")
+        seen.add(name)
         register = OPERANDS[name]
         if name in WIDE:
             wide = hexadecimal(value)

@@ -197,6 +197,8 @@ class Conversation:
         """Sends a line, and reads its answer."""
         if "\n" in line:
             raise ValueError("one line at a time")
+        if self.process.stdin.closed:
+            raise Over(self.ended(), self.file)
         try:
             self.process.stdin.write(line.encode("latin-1") + b"\n")
             self.process.stdin.flush()

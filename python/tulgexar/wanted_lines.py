@@ -140,7 +140,8 @@ def differing(wanted, came):
         return named[0]
     more = len(came.split()) - len(wanted.split())
     if more and not wanted.endswith(REST):
-        named.append(f"{abs(more)} word{'s' if abs(more) > 1 else ''} {'more' if more > 0 else 'fewer'} came")
+        hint = ", which `..` at the end would leave out" if more > 0 else ""
+        named.append(f"{abs(more)} word{'s' if abs(more) > 1 else ''} {'more' if more > 0 else 'fewer'} came{hint}")
     return "; ".join(named)
 
 
