@@ -10,8 +10,8 @@ function, client, thread and session; a bar has them where there is room.
 A trace with signals, a script of a client (of which client_trace.py writes a trace) or for lift.py, a play that was refused, and one without a
 call aren't drawn.
 
---perfetto FILE writes, in the place of the picture, the same as events for the viewers of Chrome (chrome://tracing) and Perfetto (ui.perfetto.dev): processors and slots
-are their threads, and a place in the history is a microsecond.
+--perfetto FILE writes, in the place of the picture, the same as events for the viewers of Chrome (chrome://tracing) and Perfetto
+(ui.perfetto.dev): processors and slots are their threads, and a place in the history is a microsecond.
 
 Without OUTPUT the program plays the trace, and lines `show` are put behind its calls, so that each request and result has its
 name. The program is FILE, the one that TULGEXAR_RUN names, or what `rt run` has built in crates/optee_run.
