@@ -12,10 +12,10 @@
 //!
 //! # What is proved
 //!
-//! `read_arg` answers Ok exactly for spellings, and each refusal exactly where and in its order; `read_params` gives
-//! the parameters of a count, or the first whose attribute isn't valid; `write_arg` gives the spelling; reading what
-//! was written and writing what was read give it back (`one_spelling`). The places of an argument's parts are the
-//! numbers of the header.
+//! `read_arg` answers Ok exactly for spellings, and each refusal exactly where the definition has it, in its order.
+//! `read_params` gives the parameters of a count, or the first whose attribute isn't valid. `write_arg` gives the
+//! spelling; reading what was written and writing what was read give it back (`one_spelling`). The places of an
+//! argument's parts are the numbers of the header.
 #![tactic(auto)]
 
 mod arg;

@@ -8,13 +8,15 @@
 //!
 //! # What is proved
 //!
-//! Each call of a `Desk` leaves the record that its definition says, and `next` and `bottom_half` answer as theirs say;
-//! `next` answers None exactly where nothing is pending. `bottom_half` asks for natives whose drivers have the values
-//! of those that the desk was made for. Whatever was called since `new`, a bottom half calls exactly the drivers that
-//! were signalled, while the desk was enabled, since the last bottom half or stop, each with the number of these
-//! signals, at most 2^32 - 1, in rising order of values (`signals_reach_drivers`); no value is pending twice
-//! (`values_pend_once`); and the desk is one for the drivers of `new` (`desks_keep_their_drivers`). What a driver is
-//! called with shows in the answer of the bottom half alone, since a driver is a function.
+//! - Each call of a `Desk` leaves the record that its definition says, and `next` and `bottom_half` answer as theirs
+//!   say; `next` answers None exactly where nothing is pending. `bottom_half` asks for natives whose drivers have the
+//!   values of those that the desk was made for.
+//! - Whatever was called since `new`, a bottom half calls exactly the drivers that were signalled, while the desk was
+//!   enabled, since the last bottom half or stop, each with the number of these signals, at most 2^32 - 1, in rising
+//!   order of values (`signals_reach_drivers`).
+//! - No value is pending twice (`values_pend_once`), and the desk is one for the drivers of `new`
+//!   (`desks_keep_their_drivers`).
+//! - What a driver is called with shows in the answer of the bottom half alone, since a driver is a function.
 #![tactic(auto)]
 
 mod desk;

@@ -8,12 +8,15 @@
 //!
 //! # What is proved
 //!
-//! What `Source` and `Sink` mean, and what several calls come to together (`laws_of_ports`): a failure is answered only
-//! where the count of faults rose, and any other answer leaves the count, want of memory among them; `MemSource` and
-//! `MemSink` fail exactly at the calls that they were given; `StdSource` and `StdSink` end after a bounded number of
-//! interruptions, which count as one fault then. After bytes that didn't fill the buffer a `StdSource` answers at the
-//! next call why its reader stopped, and reads nothing; an empty buffer is End and changes nothing. No clause speaks of
-//! what a flush does, or that an interrupted read, write or flush is tried again: each has a test.
+//! - `Source` and `Sink` have a meaning, and several calls of theirs come to something together (`laws_of_ports`): a
+//!   failure is answered only where the count of faults rose, and any other answer leaves the count, want of memory
+//!   among them.
+//! - `MemSource` and `MemSink` fail exactly at the calls that they were given.
+//! - `StdSource` and `StdSink` end after a bounded number of interruptions, which count as one fault then. After bytes
+//!   that didn't fill the buffer a `StdSource` answers at the next call why its reader stopped, and reads nothing; an
+//!   empty buffer is End and changes nothing.
+//! - No clause speaks of what a flush does, or that an interrupted read, write or flush is tried again: each has a
+//!   test.
 #![tactic(auto)]
 
 mod fault_plan;

@@ -18,7 +18,7 @@
 //!
 //! # What is proved
 //!
-//! - `FileName::new` makes a name exactly of ASCII bytes of at most 161, and names each refusal; `bytes` gives them
+//! - `FileName::new` makes a name exactly of at most 161 bytes of ASCII, and names each refusal; `bytes` gives them
 //!   back.
 //! - `put_request` makes the table's writes in their order, and nothing else; they lie in the bytes of the argument and
 //!   of the buffer (`requests_stay_in_their_places`). `put_request_at` makes those of a place, and `RequestPlace::of`

@@ -11,12 +11,12 @@
 //!
 //! # What is proved
 //!
-//! Of every port, by its trait: an SMC that is answered stands behind those made before, what was read of RAM stood
-//! there, and RAM is as before but for the writes, in their order, which lie in it; an SMC is made only where there is
-//! room, and Spent comes only where there is none, so that want of memory alone leaves open which it is; both refusals
-//! leave RAM, the list of SMCs and the room. Of a `World` besides: `peek` gives the bytes of RAM, and `poke` changes
-//! its own alone and leaves the list. `ListedPort` does just what the next turn of its list says. Nothing is said of
-//! what a port may answer.
+//! - Of every port, by its trait: an SMC that is answered stands behind those made before, what was read of RAM stood
+//!   there, and RAM is as before but for the writes, in their order, which lie in it. An SMC is made only where there
+//!   is room. Spent comes only where there is none, so that want of memory alone leaves open which it is. Both refusals
+//!   leave RAM, the list of SMCs and the room.
+//! - Of a `World` besides: `peek` gives the bytes of RAM, and `poke` changes its own alone and leaves the list.
+//! - `ListedPort` does just what the next turn of its list says. Nothing is said of what a port may answer.
 #![tactic(auto)]
 
 mod examples;

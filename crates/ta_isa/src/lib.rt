@@ -7,9 +7,9 @@
 //! # What is proved
 //!
 //! `decode_image` answers Ok exactly for spellings of valid images, each with its image, and each fault exactly where
-//! and in its order, or want of memory; `encode_image` gives the spelling; an image has one spelling, and a spelling
-//! one image (`one_image`); the registers of an instruction that an image may have are registers that there are
-//! (`instruction_fields`). A copy of an image, an application or a boot equals it.
+//! the definition has it, in its order, or want of memory. `encode_image` gives the spelling; an image has one
+//! spelling, and a spelling one image (`one_image`). The registers of an instruction that an image may have are
+//! registers that there are (`instruction_fields`). A copy of an image, an application or a boot equals it.
 #![tactic(auto)]
 
 mod boot;

@@ -5,12 +5,16 @@
 //! nothing that the port answers: each call ends after a bounded number of SMCs, whatever comes, and each fault names its
 //! cause.
 //!
-//! `specs/Rounds.antt` says which SMC a call makes next, by the answers that came; `specs/Runs.antt` what the client writes
-//! to RAM before it; `specs/Causes.antt` why a call ended as it did.
-//!
-//! What a call is made of: `specs/Places.antt` says where things stand in RAM; `specs/Operation.antt` how parameters are sent
-//! and what comes back; `specs/Arguments.antt` which argument a call has; `specs/Answers.antt` which registers are given and
-//! what is answered; `specs/Results.antt` what a call came to.
+//! | `specs/` | What it says |
+//! |---|---|
+//! | `Rounds` | which SMC a call makes next, by the answers that came |
+//! | `Runs` | what the client writes to RAM before it |
+//! | `Causes` | why a call ended as it did |
+//! | `Places` | where things stand in RAM |
+//! | `Operation` | how parameters are sent and what comes back |
+//! | `Arguments` | which argument a call has |
+//! | `Answers` | which registers are given and what is answered |
+//! | `Results` | what a call came to |
 //!
 //! Only the supplicant takes memory.
 //!
@@ -18,22 +22,25 @@
 //!
 //! # What is proved
 //!
-//! `open_session`, `invoke` and `close` of a client over any port make a run of SMCs (`HasRun`): argument and buffers
-//! are written once, before the first; each SMC has the registers that follow from the answers before it; before each
-//! resume the request that stands in the message is answered as the supplicant's definition says, and bytes that are no
-//! request by NOT_SUPPORTED. Each call ends, whatever the port answers, after at most one SMC for each try, one for
-//! each RPC return that the client answers, and one for a CANCEL (`most_smcs`). An Ok comes only where the last SMC was
-//! for the argument and was answered OK; result, session and outputs are then those that RAM holds (`told`, `outputs`).
-//! Each fault has its cause, and each cause its fault (`HasItsCause`): Retried and Rounds exactly after as many answers
-//! as the client bears, Strange exactly where the last answer is one, Spent exactly where the port had no room, unless
-//! the port or the supplicant wanted memory first. After a fault the operation is as it was; a client that has failed
-//! keeps its fault, answers it, and makes no SMC; after Retried it goes on, with its files as they were
-//! (`retried_stays`). At Spent all that is written before the refused SMC stands in RAM (`Stopped`); what RAM holds
-//! after another fault isn't said. Below these, `open_argument`, `invoke_argument`, `close_argument` and
-//! `cancel_argument` give the arguments of the definitions, of an operation whose buffers have at most 65,536 bytes
-//! each and whose sizes are those of its buffers; `put_buffers` makes the writes of `buffer_writes`, and no SMC;
-//! `Said::of` tells what an answer says, by its a0 alone, and `call_with_arg` and `return_from_rpc` give the registers;
-//! `take_outputs`, `result_in` and `opened_in` give what RAM holds.
+//! - `open_session`, `invoke` and `close` of a client over any port make a run of SMCs (`HasRun`). Argument and buffers
+//!   are written once, before the first; each SMC has the registers that follow from the answers before it. Before each
+//!   resume the request that stands in the message is answered as the supplicant's definition says, and bytes that are
+//!   no request by NOT_SUPPORTED.
+//! - Each call ends, whatever the port answers, after at most one SMC for each try, one for each RPC return that the
+//!   client answers, and one for a CANCEL (`most_smcs`).
+//! - An Ok comes only where the last SMC was for the argument and was answered OK; result, session and outputs are then
+//!   those that RAM holds (`told`, `outputs`).
+//! - Each fault has its cause, and each cause its fault (`HasItsCause`): Retried and Rounds exactly after as many
+//!   answers as the client bears, Strange exactly where the last answer is one, Spent exactly where the port had no
+//!   room, unless the port or the supplicant wanted memory first.
+//! - After a fault the operation is as it was; a client that has failed keeps its fault, answers it, and makes no SMC.
+//!   After Retried it goes on, with its files as they were (`retried_stays`). At Spent all that is written before the
+//!   refused SMC stands in RAM (`Stopped`); what RAM holds after another fault isn't said.
+//! - Below these, `open_argument`, `invoke_argument`, `close_argument` and `cancel_argument` give the arguments of the
+//!   definitions, of an operation whose buffers keep to the memory limit and whose sizes are those of its buffers.
+//!   `put_buffers` makes the writes of `buffer_writes`, and no SMC. `Said::of` tells what an answer says, by its a0
+//!   alone, and `call_with_arg` and `return_from_rpc` give the registers. `take_outputs`, `result_in` and `opened_in`
+//!   give what RAM holds.
 #![tactic(auto)]
 
 mod answer;
