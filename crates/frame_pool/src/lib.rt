@@ -10,9 +10,10 @@
 //!
 //! # What is proved
 //!
-//! `take` gives pages of zeros, and answers `Short` exactly where fewer are free; a page has one owner, by a move; the
-//! number of free pages is said after every call; pages are a memory of one list of bytes, whose words and parts are
-//! those of that list, in one page and across several, and so many pages of zeros are so many pages (`pages_of_zeros`).
+//! `take` gives pages of zeros, and answers `Short` exactly where fewer are free. A page has one owner, by a move, and
+//! the number of free pages is said after every call. Pages are a memory of one list of bytes, whose words and parts
+//! are those of that list, in one page and across several; and so many pages of zeros are so many pages
+//! (`pages_of_zeros`).
 #![tactic(auto)]
 
 mod examples;

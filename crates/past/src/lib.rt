@@ -1,6 +1,6 @@
 //! A list that only proofs read: it takes no memory, and its methods do nothing at run time.
 //!
-//! Who lets go of what it was given can so have the same meaning as who keeps it.
+//! So code that lets go of what it was given can have the same meaning as code that keeps it.
 //!
 //! It touches no RAM, no port and no thread.
 //!
@@ -8,7 +8,7 @@
 //!
 //! `new` makes the empty one, `with` the same with an entry behind it, and there is nothing else by which it could be
 //! another list; it has no bytes. Both are proved by hand, since no code can set a field that only proofs read. What is
-//! trusted of it is the toolchain's word that no code does: nothing at run time shows the list.
+//! trusted is the toolchain's word that only proofs read it: nothing at run time shows the list.
 #![tactic(auto)]
 
 mod past;

@@ -9,8 +9,9 @@
 //!
 //! # What is proved
 //!
-//! A finite map from cookies to buffers, with pins; each answer exactly where it is named, the whole map said after
-//! every call; every piece of `resolve` lies in RAM, and their lengths sum to the size.
+//! The registry is a finite map from cookies to buffers, with pins. Each answer comes exactly where its definition
+//! says, and the whole map is said after every call. Every piece of `resolve` lies in RAM, and their lengths sum to the
+//! size.
 #![tactic(auto)]
 
 mod fault;

@@ -16,10 +16,10 @@
 //!   the range stays. `reads_on` says whether a reply brings a piece behind which another one is read; then `read_on`
 //!   comes to the same step in place.
 //! - By the definition, no tag is asked for of an object whose header has said that its file has none, nor of a read
-//!   that has no bytes left; what a read puts into the application's memory are the brought data from its position on,
-//!   and what a write asks to be written before the tag are the application's bytes, at that position; and a file that
-//!   a create or a write leaves ends with its tag where the normal world does what it is asked. These are read off the
-//!   definition, and no law: nor does any clause tell an older file from the last one that was written, or say what a
+//!   that has no bytes left. What a read puts into the application's memory are the brought data from its position on,
+//!   and what a write asks to be written before the tag are the application's bytes, at that position. A file that a
+//!   create or a write leaves ends with its tag where the normal world does what it is asked. These are read off the
+//!   definition, and no law. Nor does any clause tell an older file from the last one that was written, or say what a
 //!   file holds whose write the normal world has broken off.
 //! - Each piece is hashed as it comes, and none is copied for that; what has gone into the tags of a call is said by
 //!   `Hashes`. All hashing is over before the first FsWrite.
