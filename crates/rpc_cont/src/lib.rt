@@ -4,7 +4,7 @@
 //! `job_model`: `advance` gives that job after the steps, or its stop, and `resume_with` gives it the answer to what
 //! it has asked for. What stands in a call is all that is left of it, so another processor can go on with it.
 //!
-//! Nothing here takes memory, and nothing reads or writes RAM.
+//! Nothing here takes memory.
 //!
 //! It touches no RAM, no port and no thread.
 //!
