@@ -1,10 +1,10 @@
 //! A core at work: beside the core, what each processor that is inside goes out with.
 //!
-//! A processor comes in and goes out by its number. Its granted steps need neither the core nor RAM, so they are done as it comes
-//! in, and what they came to is kept until it goes out. The RAM that it sees is lent to each call, since those who hold a core keep
-//! RAM in different ways: one for each processor, or one for all that is written anew before each entry. Contracts say what the
-//! core's own entry and exit are; that just the processors that are inside have something to go out with, each its own, is a fact
-//! of the type.
+//! A processor comes in and goes out by its number. Its granted steps need neither the core nor RAM, so they are done
+//! as it comes in, and what they came to is kept until it goes out. The RAM that it sees is lent to each call, since
+//! those who hold a core keep RAM in different ways: one for each processor, or one for all that is written anew before
+//! each entry. Contracts say what the core's own entry and exit are. That just the processors that are inside have
+//! something to go out with, each its own, is a fact of the type.
 //!
 //! `booting` boots a core, `core_at_work` and `working` have the core, and `went_out` says what a processor goes out with.
 //!
@@ -25,17 +25,11 @@
 //!
 //! # Definitions
 //!
-//! - `IsApart` (`Booting`): what a core needs beside its limits to be booted
-//! - `insides`, `IsInside`, `IsOutside` (`Insides`): which processors are inside: a core without events has all its
-//!   processors outside
-//! - `HaveTheirOwn` (`Outgoing`): what the processors of a core go out with: those that are inside have something, each
-//!   its own, and no others
-//! - `outgoing_of`, `SameOutgoing`, `SameOutgoingBut`, `HasComeIn`, `ComesIn`, `GoesOut` (`Working`): an entry and an
-//!   exit of a core at work: each is the core's own, and between them is kept what the processor goes out with; what
-//!   another goes out with stays
-//! - `panic_of`, by `state_panic`, `slot_panic`, `phase_panic`, `grant_panic` (`Panics`): the code of the panic in
-//!   which the call that a processor works on ends within its granted steps, by the grant of its job: a call that rests
-//!   has none
+//! - `insides`, `IsInside`, `IsOutside` (`Insides`): a core without events has all its processors outside
+//! - `ComesIn`, `GoesOut` (`Working`), an entry and an exit of a core at work: each is the core's own, and between them
+//!   is kept what the processor goes out with; what another goes out with stays
+//! - `panic_of` (`Panics`), the code of the panic in which the call that a processor works on ends within its granted
+//!   steps, by the grant of its job: a call that rests has none
 #![tactic(auto)]
 
 mod booting;

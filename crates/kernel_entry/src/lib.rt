@@ -9,53 +9,42 @@
 //!
 //! # What is proved
 //!
-//! - `apply` makes of tables and a plan of a new call what the kernel's definition takes the call's slot for, of each
-//!   boot whose key the call's box has: the call is settled, runs, or waits, sessions, instances, pins, waiters and
-//!   registered buffers are the definition's, and the pool keeps having just the free pages. The slot pins the cookie
+//! - `apply` makes of the tables and the plan of a new call what the kernel takes the slot for (`taken_of`), for each
+//!   boot whose key the call's box has. The call is settled, runs, or waits; sessions, instances, pins, waiters and
+//!   registered buffers are the definition's; and the pool keeps having just the free pages. The slot pins the cookie
 //!   that names the argument first, whatever the plan.
-//! - `enter_fixed`, `enter_new` and `enter_resumed` let a processor into the parts of a core, for a fixed answer, a new
-//!   call or one that is resumed: where the parts stood for a kernel they stand for the one after that decision, the
-//!   entry stands behind the events, and the processor carries the call of its slot. What is decided of a call with
-//!   these registers is what the kernel decides, by just the reads that are listed.
+//! - `enter_fixed`, `enter_new` and `enter_resumed` let a processor into the parts of a core (below).
 //! - `prepare` takes all memory of an entry, and tells what was decided: the kernel decides just so, by just the reads
 //!   that are listed, and a call that goes on is given just this. The core stays, with more room; or the entry is
-//!   refused as below. `admit` then does that for a processor with these registers, takes no memory and can't fail.
+//!   refused as below. `admit` then lets a processor with these registers in; it takes no memory and can't fail.
 //! - `enter` is both, the entry of a core: one event more, whose reads have the lane's bytes, and the work of its
 //!   processor; or it is refused, with more bytes read together than the core's terms allow or for want of memory, and
 //!   boot, terms and events are as they were. All memory is taken before anything changes.
-//! - What the parts ask for of legal histories (the slot's call doesn't wait yet, instances have their pages, a new
-//!   instance's number is free, fewer than 80 are kept, a call that waits stands in line) is proved here from
-//!   `kernel_model`'s laws.
+//! - What the parts ask for of legal histories is proved here from `kernel_model`'s laws: the slot's call doesn't wait
+//!   yet, instances have their pages, a new instance's number is free, fewer than 80 are kept, and a call that waits
+//!   stands in line.
 //!
 //! # Definitions
 //!
-//! - `Came`, `began`, `queued`, `open_comes`, `session_comes`, `HasCome` (`Applying`): an open that shares an instance
-//!   which another call holds waits there
-//! - `IsNew`, `CanMake`, `CanShare`, `CanComeIn`, `MayCome`, `MayOpen`, `MayWork`, `KeepsSession` (`Applying`): a new
-//!   instance needs as many free pages as its application has
-//! - `FitsOpen`, `FitsSession`, `FitsPlan`, `CanTakeFor`, `CanTake`, `IsTaken`, `meant_by`, `is_cancel` (`Applying`): a
-//!   plan to cancel means the calls of its session that have its number
-//! - `IsSuspended`, `resumed_as`, `IsResumable`, `CanGoOn`, `goes_on_as`, `HasGoneOn` (`Resuming`): a call can go on
-//!   where one is suspended for the client that the registers name
-//! - `goes_on_in`, `decision_as`, `ComesTo`, `IsDecided`, `IsGiven`, `CanBegin`, `CanContinue`, `HasFound`
-//!   (`Deciding`): what was decided, as a decision of the kernel; what the kernel's call is given that goes on
-//! - `HasMoreRoom`, `IsDecidedBy`, `HasBox`, `IsPrepared`, `IsTooMuchFor`, `Fit`, `Prepares`, `PreparesEntry`,
-//!   `WasPrepared`, `CanTakeSlot`, `CanFollow`, `IsCarriedBy` (`Entering`): with the reads of an entry all have at most
-//!   as many bytes as the core's terms allow
+//! - `FitsPlan`, `meant_by`, `is_cancel` (`Applying`): a plan to cancel means the calls of its session that have its
+//!   number
+//! - `IsSuspended`, `resumed_as`, `CanGoOn` (`Resuming`): a call can go on where one is suspended for the client that
+//!   the registers name
 //!
 //! **A plan, applied.** `IsTaken` says that the tables and the call as data are those that the kernel's definition
 //! takes the slot for (`taken_of` of `new_calls`), that what is to stand beside the slot is the call's, and which calls
 //! are cancelled. What applying asks of the tables (`CanTake`) follows from what `kernel_model` says of the kernels of
 //! legal histories, which `enter` knows of its core.
 //!
-//! **An entry, over parts.** A function that lets a processor in says of each kernel for which the parts stood that the
-//! parts afterwards stand for the one behind the decision, and that the entry stands behind the events. `decision_as`
-//! is the decision of the kernel that was decided: of a call that is resumed it names the kernel's own call, which the
-//! registers name. That the kernel's entry decides just so, with these reads, is one equation (`IsDecided`). An entry
-//! that is prepared (`IsPrepared`) has that, what the call is given that goes on, and all that doing it asks for;
-//! between `prepare` and `admit` the core is as it was, but for room, and what was decided can be read.
+//! **An entry, over parts.** A function that lets a processor in says of each kernel for which the parts stood: the
+//! parts afterwards stand for the one behind the decision, the entry stands behind the events, and the processor
+//! carries the call of its slot. `decision_as` is the decision of the kernel that was decided: of a call that is
+//! resumed it names the kernel's own call, which the registers name. That the kernel's entry decides just so, with
+//! these reads, is one equation (`IsDecided`). An entry that is prepared (`IsPrepared`) has that, what the call is
+//! given that goes on, and all that doing it asks for. Between `prepare` and `admit` the core is as it was, but for
+//! room, and what was decided can be read.
 //!
-//! | Test or case | Definition | Code |
+//! | Test or case | Kernel's definition | Code |
 //! |---|---|---|
 //! | a fast call | `decision_of`: `Fast call` | `decide`: `Call::Fast(call)` |
 //! | a new call | `decision_of`: `WithArg`, `WithRpcArg`, `WithRegdArg`, `new_call` | `decide_new`, with `new_call` of `new_calls` |

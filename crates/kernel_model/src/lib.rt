@@ -14,9 +14,9 @@
 //! - a fixed answer's entry and exit change nothing but their processor's part, which is outside again
 //!   (`fixed_answers_change_one_processor`);
 //! - ETHREAD_LIMIT is fixed at an entry exactly where a new call finds no slot free
-//!   (`limit_comes_exactly_without_a_slot`), and ERESUME exactly where a resume finds no call that is suspended in its
-//!   slot for its client; where it finds one, the kernel after it is what that call comes to with the entry's reads
-//!   (`resumes_come_exactly`).
+//!   (`limit_comes_exactly_without_a_slot`);
+//! - ERESUME is fixed exactly where a resume finds no call that is suspended in its slot for its client; where it finds
+//!   one, the kernel after it is what that call comes to with the entry's reads (`resumes_come_exactly`).
 //!
 //! In each legal history:
 //! - the a0 of an exit is 1, or 3, exactly where the processor's call found no slot, or no call, as it came in
@@ -30,12 +30,12 @@
 //! - each read of each entry has at least one byte, and all its bytes lie in RAM (`histories_read_ram`).
 //!
 //! Of each kernel that a legal history comes to:
-//! - *slots and processors*: there are as many as at the boot (`slots_are_as_many`); a processor that is inside for a
-//!   slot works on its call, and the one that works on a call is inside for its slot
-//!   (`processors_work_on_their_slots`), and has an exit (`exits_come`), since each machine that runs is of a valid
-//!   image; the events of others leave its part and its call as they are, but for the call's mark (`others_stay_away`);
-//! - *steps*: a call has done at most a million for each entry (`steps_are_of_entries`; `steps_are_granted` says it by
-//!   events);
+//! - *slots and processors*: there are as many as at the boot (`slots_are_as_many`); a processor is inside for a slot
+//!   exactly where it works on that slot's call (`processors_work_on_their_slots`), and a processor that is inside has
+//!   an exit (`exits_come`), since each machine that runs is of a valid image; the events of others leave its part and
+//!   its call as they are, but for the call's mark (`others_stay_away`);
+//! - *steps*: for each entry a call has done at most the step limit (`steps_are_of_entries`; `steps_are_granted` says
+//!   it by events);
 //! - *numbers*: those of sessions, instances, calls and waiters were given, there were no more instances than sessions,
 //!   and they fit 32 bits and never sink (`numbers_are_given`, `numbers_rise`); the tables are in the order of their
 //!   numbers, with at most 64 sessions and 64 registered buffers (`tables_are_in_order`);
@@ -54,7 +54,7 @@
 //!   where the instance of a session is gone (`instances_are_few`), and so at most 80 (`instances_are_at_most_80`).
 //!
 //! The definitions give what the worked histories say, and one of these is shown to be legal from its boot
-//! (`some_history_is_legal`). Its must-fail edits turn six definitions.
+//! (`some_history_is_legal`).
 #![tactic(auto)]
 
 mod laws;

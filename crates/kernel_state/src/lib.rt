@@ -1,21 +1,22 @@
 //! The state that an entry and an exit work on, and what it stands for.
 //!
 //! A `Core` is what it was booted with and its events: contracts see it so, by `booted_of` and `events_of`. Its kernel
-//! is what those events make of the first one. The parts that it keeps for this are `Parts`, and that they stand for
-//! that kernel, table by table, is a fact of the type: a core that breaks it can't be made.
+//! is what those events make of the first one; "The meaning of a core", below, says how its parts stand for that
+//! kernel.
 //!
 //! It touches no RAM, no port and no thread: the steps of an application work on its pages alone.
 //!
 //! # What is proved
 //!
 //! - `Core::boot` gives a core of that boot and those built-in applications with no events, which keeps those that
-//!   come, up to 2^28 bytes read, and `boot_on` one on other terms; or `Repeated` exactly where a UUID stands twice,
-//!   with the first that an earlier application or a built-in one has.
-//! - Each core's events, kept or counted, are a legal history from what it was booted with, their reads have at most as
-//!   many bytes together as its terms allow, each read has at least one byte and lies in RAM, and those of one entry
-//!   agree; how many there were, how many bytes they read, and the last entry of a processor are told of both, and
-//!   `journal` lends them where they are kept; the free slots, the free pages and whether a processor is inside are
-//!   those of the kernel that its events come to.
+//!   come, and whose entries may read up to the read limit, 2^28 bytes; `boot_on` gives one on other terms. Both answer
+//!   `Repeated` exactly where a UUID stands twice, with the first that an earlier application or a built-in one has.
+//! - Each core's events, kept or counted, are a legal history from what it was booted with.
+//! - Each read has at least one byte and lies in RAM, and those of one entry agree; all have at most as many bytes
+//!   together as the core's terms allow.
+//! - How many events there were, how many bytes they read, and the last entry of a processor are told of kept and of
+//!   counted events; `journal` lends the events where they are kept.
+//! - The free slots, the free pages and whether a processor is inside are those of the kernel that the events come to.
 //! - `Work::run` takes the call that runs on by exactly the granted steps, in one grant of `rpc_cont`, and leaves one
 //!   that rests as it is; `cont` shows the call that runs, and None where there is none.
 //! - `mark_calls` marks just the calls of a session that have a number, those that a processor works on among them.
@@ -23,10 +24,9 @@
 //! - `Blanks` gives boxes in which nothing of a call is left, whatever call was in them, and no memory of one: neither
 //!   open objects nor the lists of its places; each has the key that it is taken for. Contracts see how many are kept
 //!   and for how many there is room, and the box of a call that has finished is kept where there is room for it.
-//! - `Leaving::of` gives what the kernel's call goes out with, for each call that the data stands for: its application
-//!   still runs, it wants a place, it asks for this at its place, it gives its buffer back, or it has finished. A place
-//!   is its buffer, or its area with its buffer where a payload needs one.
-//! - Cases of `cases` boot cores at both ends of the limits, beside sixteen built-in applications.
+//! - `Leaving::of` gives what the kernel's call goes out with (`leaving_of` of `kernel_model`), for each call that the
+//!   data stands for: its application still runs, it wants a place, it asks for this at its place, it gives its buffer
+//!   back, or it has finished. A place is its buffer, or its area with its buffer where a payload needs one.
 //!
 //! The contract of an entry (`Enters`) is met by `enter` of `kernel_entry`, that of an exit (`HasLeft`) by `leave` of
 //! `kernel_exit`. What the two say, over all cores:
@@ -45,53 +45,28 @@
 //!   `Core::free_slots` tells 0, and ERESUME exactly where a return from RPC finds no call.
 //! - `returns_continue`: a return from RPC continues the call that is suspended in the slot that its registers name,
 //!   for the client that they name, just as the last exit from that slot left it, but that it may have been cancelled
-//!   since; where there is none, ERESUME is fixed, and nothing of the kernel changes but the processor's part.
+//!   since. Where there is none, ERESUME is fixed, and nothing of the kernel changes but the processor's part.
 //!
 //! # Definitions
 //!
-//! - `IsWithinLimits`, `has_uuid`, `first_repeated` (`Booting`): built-in applications count as earlier ones
-//! - `instance_of`, `tables_of`, `HasFreePages` (`Tables`): an instance that is built in has no bytes of memory
-//! - `bytes_of`, `IsWaiting`, `woken_slot`, `HasEnded`, `IsInPhase`, `IsAppOf`, `KeepsLogin`, `IsCall` (`Calls`): a
-//!   call that has a result asks at most to wake a slot
-//! - `marked_by` (`Cancelling`): a call of another session with the same number stays as it is
-//! - `IsBeside`, `IsSlot`, `IsSlotAt`, `AreSlots`, `StandsFor` (`StandsFor`): the parts of a fresh boot stand for the
-//!   first kernel
+//! - `IsCall` (`Calls`), a call as data beside one of the kernel: one that has a result asks at most to wake a slot
 //! - `Agree`, `ReadsAgree` (`Reads`): two reads of one address in one entry have one byte there
-//! - `booted_of`, `terms_of`, `events_of`, `core_basis`, `kernel_of`, `free_slots_in`, `free_pages_in`, `is_inside`
-//!   (`Meaning`): a core that was just booted has no events, and comes to the first kernel
-//! - `kept_terms` (`Terms`): events are kept, and entries may read 2^28 bytes
 //! - `running_call`, `CanBeGranted` (`Carried`): a call that waits isn't shown
-//! - `IsBlank`, `HoldsBlanks` (`Blanks`): a call that was settled has no buffer, no open objects and no places and has
-//!   done no steps before it is filled; nothing is there of any call in the boxes that are kept, and there is room for
-//!   one
-//! - `Boxes`, `with_box` (`Blanks`): how many boxes are kept and for how many there is room; one more, where there is
-//!   room
-//! - `HasRun`, `IsCarriedOn`, `IsRanOf`, `IsCarriedAs`, `IsCarriedFor`, `IsCarriedIn`, `IsWorkIn`, `IsWorkOf`,
-//!   `IsRanFor` (`Work`): of an answer that was fixed nothing is carried
-//! - `Coming`, `visit_of`, `CanEnter`, `IsAsBefore`, `HasWorkAfter`, `HasWork`, `HasEntered`, `bytes_read`,
-//!   `IsTooMuchAfter`, `IsTooMuch`, `Enters` (`Entering`): the contract of an entry: an entry that would read more
-//!   bytes with those before than the terms allow leaves boot, terms and events as they were
-//! - `wanted_in`, `place_of`, `asking`, `asking_nothing`, `leaving_by` (`CallLeaving`): a call that has ended and wakes
-//!   nobody gives its buffer back, if it has one
-//! - `asked_request`, `request_of`, `leaving_as` (`CallLeaving`): what `Leaving` of the code stands for: the request
-//!   stands in the call
-//! - `CanLeaveAfter`, `CanLeave`, `HasLeft` (`Leaving`): the contract of an exit: the lane has the exit's writes, and
-//!   no other byte changes
-//! - `CoreEntry`, `CoreExit`, `regs_of`, `ChangedByOthers`, `GoesOnByOthers` (`Laws`): between a core and the one after
-//!   processor 1 came in, only others than processor 0 have come and gone
-//! - `StandsAt`, `EntriesStandAtTheirPlaces` (`Placing`): the first entry stands at place 0, also behind the entries of
-//!   others
-//! - `JournalsStayLegal`, `WorkStays`, `WorkStaysOnward`, `WorkCanLeave`, `FixesAnswer`, `HasGoneWith`,
-//!   `FixedAnswersPass`, `AnswersComeExactly`, `ContinuesCall`, `ComesBackTo`, `ReturnsContinue` (`Laws`): what the two
-//!   contracts say, over all cores: a return from RPC that finds no call changes its processor's part alone
+//! - `Enters` (`Entering`), the contract of an entry: an entry that would read more bytes with those before than the
+//!   terms allow leaves boot, terms and events as they were
+//! - `HasLeft` (`Leaving`), the contract of an exit: the lane has the exit's writes, and no other byte changes
+//! - `ChangedByOthers`, `GoesOnByOthers` (`Laws`): between a core and the one after processor 1 came in, only others
+//!   than processor 0 have come and gone
 //!
-//! **The meaning of a core.** A core is what it was booted with and its events. `Replays` is true of each: it was
-//! booted within the limits and with no UUID twice, its events come to a kernel, so that they are a legal history, and
-//! its parts stand for that kernel. They do so table by table, `StandsFor`: the tables are the kernel's, as `tables_of`
-//! gives them, and the processors, each as `processor_of` gives it; of an active slot the parts have its processor and
-//! what stands beside it, and of a suspended one, in `IsCall`, the call as data beside that; the free pages are those
-//! of the pool; and each processor that is inside has room for its exit in the journal. The reads of all events have at
-//! most as many bytes as its terms allow, and those of one entry agree.
+//! **The meaning of a core.** A core is what it was booted with and its events. `Replays` is a fact of the type, so a
+//! core that breaks it can't be made: it was booted within the limits and with no UUID twice, its events come to a
+//! kernel, so that they are a legal history, and its parts (`Parts`) stand for that kernel. They do so table by table
+//! (`StandsFor`):
+//! - the tables are the kernel's, as `tables_of` gives them, and the processors, each as `processor_of` gives it;
+//! - of an active slot the parts have its processor and what stands beside it, and of a suspended one, in `IsCall`, the
+//!   call as data beside that;
+//! - the free pages are those of the pool;
+//! - each processor that is inside has room for its exit in the journal.
 //!
 //! **Its terms** (`Terms`) say whether its events are kept as data, or counted and let go of, and how many bytes its
 //! entries may read, at most 2^63. They are no part of what it was booted with, since nothing that it answers depends
@@ -103,17 +78,15 @@
 //! `Ran` behind them. `IsWorkOf` says that a work fits a kernel: its processor is inside, with as many steps granted,
 //! and the call is the one that the kernel has in that processor's slot, but for its mark, which stands beside the
 //! slot. `IsRanFor` says the same of a `Ran`, by some work that it is the run of. What other processors do leaves both
-//! true, since it leaves the processor's part and its call as they are, but for a mark (`work_stays`). `Leaving::of`,
-//! what a call goes out with, is `leaving_of` of `kernel_model`, for each call that the data stands for.
+//! true (`work_stays`), since it leaves the processor's part and its call as they are, but for a mark.
 //!
-//! **The contracts of an entry and an exit** are definitions, `Enters` and `HasLeft`, which `enter` of `kernel_entry`
-//! and `leave` of `kernel_exit` meet. What they say of every core that meets them is proved in `src/laws.rt`: a
-//! `CoreEntry` is an entry that meets its contract, with the kernels that the core before it and the core after it come
-//! to, and a `CoreExit` the same of an exit. `ChangedByOthers` is what may happen between an entry and its exit: any
-//! entries and exits of other processors, in any order. That a work or its run fits (`HasWork`, `CanLeave`) is a bare
-//! fact, in `∥ .. ∥₁`, since the fact that a core keeps of its own calls is one. Both are said of a boot and a history
-//! (`HasWorkAfter`, `CanLeaveAfter`), and of a core by its own; so whoever knows a beginning of a core's events alone
-//! can say them too, and `GoesOnByOthers` is what may come behind it.
+//! **The laws** (`src/laws.rt`) are of every core that meets the two contracts: a `CoreEntry` is an entry that meets
+//! its contract, with the kernels that the core before it and the core after it come to, and a `CoreExit` the same of
+//! an exit. `ChangedByOthers` is what may happen between an entry and its exit: any entries and exits of other
+//! processors, in any order. That a work or its run fits (`HasWork`, `CanLeave`) is a bare fact, in `∥ .. ∥₁`, since
+//! the fact that a core keeps of its own calls is one. Both are said of a boot and a history (`HasWorkAfter`,
+//! `CanLeaveAfter`), and of a core by its own. So whoever knows only a beginning of a core's events can say them too,
+//! and `GoesOnByOthers` is what may come behind it.
 #![tactic(auto)]
 
 mod blanks;

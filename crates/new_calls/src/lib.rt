@@ -5,41 +5,28 @@
 //! which says what the call's slot is taken for, and has all memory that this needs but the call's own. No table is
 //! changed here.
 //!
-//! Each function is named as its definition in `kernel_model`, and cites it.
-//!
 //! It reads the lane that it is lent, and touches no port and no thread.
 //!
 //! # What is proved
 //!
-//! - A new call is decided as the kernel's definition decides it: the tests of every call and those of its command come
-//!   over the lane to the answer, or to what the slot is taken for, with just the reads that it lists, or to want of
-//!   memory, of which nothing is said. The slot is the free one that it was offered. `Located` says where the argument
-//!   is, by an address or in registered memory, and the area behind it; nothing of the area is read.
-//! - What a plan may rely on where it is applied is proved with it: the application of the session's instance, room for
-//!   a session or a buffer, pages for an instance, and that each cookie is registered, the one that names its argument
-//!   among them. What a plan changes is `kernel_entry`'s.
+//! - A new call is decided as the kernel's definition decides it: over the lane the tests of every call and those of
+//!   its command come to the answer, or to what the slot is taken for, with just the reads that it lists. Of want of
+//!   memory nothing is said. The slot is the free one that it was offered. `Located` says where the argument is, by an
+//!   address or in registered memory, and the area behind it; nothing of the area is read.
+//! - What a plan may rely on where it is applied is proved with it (below).
 //! - It asks that each instance is of an application of the boot, and that the pool has the free pages, as in the
 //!   kernels of legal histories.
 //!
 //! # Definitions
 //!
-//! - `call_found`, `call_with`, `call_of`, `settled_of`, `asked_by`, `taken_in_session`, `taken_of` (`Deciding`): a
-//!   plan to invoke stands for `invokes` in its session
-//! - `ComesTo`, `Decides`, `HaveSaid`, `copies_or`, `pages_or` (`Deciding`): want of memory says nothing of the tests
 //! - `open_fault`, `register_fault` (`Faults`): the code of the first test that fails, of those that read nothing more:
 //!   a register of no bytes fails with TEE_ERROR_BAD_PARAMETERS
-//! - `HaveApps`, `IsRegistered`, `AreRegistered`, `CanOpen`, `IsInSession`, `CanInvoke`, `CanKeep`, `CanDrop`,
-//!   `CanApply` (`Applying`): what a plan's change may rely on: a buffer that is to be kept has a new cookie, and pages
-//!   of RAM
-//! - `tests_of`, `ComesIn`, `decision_of`, `IsInSlot`, `CanPin`, `CanTake` (`Commands`): a plan in a slot stands for
-//!   `Takes`
-//! - `named_as`, `located_as` (`Locating`): what the code has found of an argument's place stands for the definition's
 //!
 //! **Beside the kernel's definition.** Each function of the code has the name of the one in `kernel_model`'s
 //! `specs/NewCall.antt` or `specs/Argument.antt` that its contract cites, and a test stands there as one early return,
 //! in the order of the definition.
 //!
-//! | Test or case | Definition | Code |
+//! | Test or case | Kernel's definition | Code |
 //! |---|---|---|
 //! | a free slot, or ETHREAD_LIMIT | `new_call_with`: `known free ethread_limit` | `new_call`: `let Some(slot) = found.free else` |
 //! | where the argument is, or EBADADDR | `new_call_in`: `known (located tables regs) ebadaddr` | `come_in`: `let Some(at) = Located::of(registry, regs) else` |
@@ -76,11 +63,12 @@
 //! | unregister: no call pins it, nor does this one as its argument's | `need (is_none (lowest_slot ..))`, in tables `with_argument_pinned` | `if self.is_pinned(param.s)` |
 //! | unregister: the case | `drops_buffer` | `Plan::DropsBuffer` |
 //!
-//! **What a plan brings.** Applying takes no memory and can't fail. So a plan that begins has the application that
-//! runs, also where the call will wait for its instance, and its parameters copied; the memory of the call itself is
-//! taken by whoever decides the entry. And `CanApply` keeps what the tests have found of the tables: the session is the
-//! named one, its instance is of the application, the cookies are registered, there is room. `CanPin` keeps that the
-//! cookie that names the argument is registered.
+//! **What a plan brings.** Applying it is `kernel_entry`'s, takes no memory and can't fail. So a plan that begins has
+//! the application that runs, also where the call will wait for its instance, and its parameters copied; the memory of
+//! the call itself is taken by whoever decides the entry. And `CanApply` keeps what the tests have found of the tables:
+//! the session is the named one, its instance is of the application, the cookies are registered, there is room for a
+//! session or a buffer, and there are pages for an instance. `CanPin` keeps that the cookie that names the argument is
+//! registered.
 #![tactic(auto)]
 
 mod argument;

@@ -8,32 +8,26 @@
 //!
 //! # What is proved
 //!
-//! - `decide` finds the call that a resume is for, by its slot and its client, and tells the slot and what the call is
-//!   given: the buffer that the registers offer, no buffer, the reply that is read of the lane, or nothing; and the
-//!   application of a call that waits. What it reads is what the definition reads, also where it reads nothing, and at
-//!   want of memory nothing is listed.
+//! - `decide` finds the call that a resume is for, by its slot and its client. It tells the slot, the application of a
+//!   call that waits, and what the call is given: the buffer that the registers offer, no buffer, the reply that is
+//!   read of the lane, or nothing. What it reads is what the definition reads, also where it reads nothing, and at want
+//!   of memory nothing is listed.
 //! - `resume_call` then makes of the call and the tables what `onward_of` says of the kernel's, for each call of the
-//!   kernel that the data stands for: it sees that it was cancelled, has its buffer, and goes on, or is tested again
-//!   where it waited, begins under the boot's key on its instance or on a new one, sleeps on, or ends. It takes no
-//!   memory and can't fail. That what a call asks for fits a message is proved here.
-//! - It asks of its caller what holds of each kernel: that a call that waits stands in line, that its session is on its
-//!   instance and that of its application, and that an open can make its instance again where that is gone.
+//!   kernel that the data stands for. The call sees that it was cancelled and has its buffer; it goes on, or, where it
+//!   waited, is tested again: it begins under the boot's key on its instance or on a new one, sleeps on, or ends. It
+//!   takes no memory and can't fail. That what a call asks for fits a message is proved here.
+//! - It asks of its caller what holds of each kernel (`CanDecide`, `CanResume`): that a call that waits stands in line,
+//!   that its session is on its instance and that of its application, and that an open can make its instance again
+//!   where that is gone.
 //!
 //! # Definitions
-//!
-//! - `IsCallOf`, `BoxedCont` (`Finding`): no call is found where the kernel has none for the client
-//! - `given_as`, `buffer_as`, `CanBeGiven` (`Giving`): the area and the buffer of a call lie in RAM
-//! - `CanDecide`, `IsDecidedFor`, `IsDecided`, `IsInSlot`, `IsHandedOut`, `IsAppIn` (`Deciding`): where there is no
-//!   call nothing is read
-//! - `resumed_in`, `IsWaitingCall`, `IsOwnInstance`, `WaitsInLine`, `IsInLine`, `CanBeginOn`, `IsItsApp`,
-//!   `MayBeItsApp`, `IsAppFor` (`Waiting`): a call that waits stands in line, and its session is on its instance
 //!
 //! The code follows `Given.antt` and `Resume.antt` of `kernel_model` name by name: `call_resumed_by`, `given_to`,
 //! `offered_buffer`, `call_given`, and, as imperatives, `see_mark` for `sees`, `resume_waiting`, `test_again`,
 //! `sleep_on`, `begin_in`, `begin_open`, `begin`, `end_with`. The other phases of `onward_in` are one function,
-//! `go_on`. What its callers owe is said of the kernel's calls and tables: `CanDecide` and `CanResume`.
+//! `go_on`.
 //!
-//! | Test or case | Definition | Code |
+//! | Test or case | Kernel's definition | Code |
 //! |---|---|---|
 //! | no call in the slot for the client, or ERESUME | `call_resumed_by`, `resume` | `call_resumed_by`; `decide`: `return Ok(None)` |
 //! | it was interrupted, or has given its buffer back: nothing | `given_after`: `Interrupted`, `FreesBuffer`, `Finishes` | `given_to`: the same of `Leaving` |
