@@ -22,9 +22,9 @@
 //!   end of a turn each keep it, and the value is taken and put by plain exchanges that no other seat sees. A turn
 //!   can't be dropped.
 //! - Not proved of the lock: that a turn comes, fairness, freedom from deadlock, and that turns go in the order of the
-//!   tickets, of which no clause of a public call speaks. Tickets are drawn behind a gate that lets in who comes while
-//!   it is open, so turns don't come in the order in which threads came. Of the gate only safety is proved, and nothing
-//!   else rests on it.
+//!   tickets, of which no clause of a public call speaks. Tickets are drawn behind a gate, which lets in whoever comes
+//!   while it is open, so turns don't come in the order in which threads came. Of the gate only safety is proved, and
+//!   nothing else rests on it.
 #![tactic(auto)]
 
 ghost use Rattle.core_lock.specs.Examples.{Examples};

@@ -13,20 +13,20 @@
 //!
 //! Over every interleaving of the processors of a core behind the lock. *Legal* means: from the boot of the core that
 //! was shared.
+//! - All entries that a pass has seen have read at most the read limit together, behind each call.
 //! - `share` gives a pass for each processor, in the order of their numbers, which have seen nothing and made nothing,
 //!   or want of memory and the core.
 //! - `enter` makes one entry, under one turn: the pass has then seen a legal history that begins with all that it had
 //!   seen and ends with this entry, whose reads have the lane's bytes; the work shows the call of that history's
-//!   kernel, with none of the granted steps done. All entries of that history have read at most 2^28 bytes together, so
-//!   `Full` comes exactly above, unless memory is wanting first.
+//!   kernel, with none of the granted steps done. `Full` comes exactly where this entry would pass the read limit,
+//!   unless memory is wanting first.
 //! - `leave` makes one exit, under one turn, as the last event of such a history, at `exit_at`: registers and writes
 //!   are those of the kernel's exit there. The entry that it ends stands at `entry_at`, and no event of its processor
 //!   between the two. It asks nothing of the core: that the pass's work still fits follows from what the pass has seen.
-//! - Behind each, a refused entry too, the pass has neither a turn nor a ticket; the entries that it has seen have read
-//!   at most 2^28 bytes, and what it has seen holds of its processor just the events that it made, in their order, each
-//!   once. A refused entry makes none; the pass has then seen a legal history that begins with all that it had seen,
-//!   and the numbers of `Full` are the bytes which that history's entries have read, and those which this entry would
-//!   read at its end.
+//! - Behind each, a refused entry too, the pass has neither a turn nor a ticket, and what it has seen holds of its
+//!   processor just the events that it made, in their order, each once. A refused entry makes none; the pass has then
+//!   seen a legal history that begins with all that it had seen, and the numbers of `Full` are the bytes which that
+//!   history's entries have read, and those that this entry would add.
 //! - `close` needs all passes, each once. The core that comes back has the boot of the one that was shared; its events
 //!   are legal, begin with all that each pass has seen, and are of each processor just those that its pass made, and no
 //!   others.
@@ -34,18 +34,6 @@
 //! - Not proved: that a turn comes, and any order in time between processors beyond what their passes have seen.
 //!
 //! # Definitions
-//!
-//! - `CpuPass`, `boot_of` (`Sharing`): what a shared core was booted with
-//! - `IsCpuOf`, `AreCpusOf`, `AreAllCpusOf` (`Sharing`): a pass with a turn out, or with a ticket, is none
-//! - `is_entry`, `end_inside`, `is_inside` (`Sharing`): a pass that has made nothing is outside
-//! - `HasOnlySeen`, `HasMade` (`Seeing`): what was seen before a turn begins what is seen behind it, which is legal and
-//!   whose entries have read at most 2^28 bytes
-//! - `IsEntryBy`, `IsOpenAt` (`Seeing`): an entry with an event of its processor behind it isn't open
-//! - `coming`, `HasCome`, `ComesIn` (`Entering`): an entry under a turn: one that is let in keeps that history's bytes
-//!   read within 2^28, and the numbers of a refusal are those of the history that the pass has then seen
-//! - `CanGoOut`, `GoesOut` (`Leaving`): an exit under a turn: the exit stands behind its entry, and no event of its
-//!   processor between
-//! - `WorksGoOut` (`Laws`): an entry, its steps and its exit follow each other with no test
 //!
 //! `HasCome` and `GoesOut` say of a pass what `HasEntered` and `HasLeft` of `kernel_state` say of a core. A pass has no
 //! core, but the history that it has seen; that it is legal from the boot of the core that was shared is said of both
