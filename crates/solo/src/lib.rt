@@ -2,12 +2,13 @@
 //!
 //! A `SoloSession` is made from the application alone and is fed with the session's own events. It stands for the
 //! machine of `own_model` (`specs/Standing.antt`): each of its calls is a `Cont` over plain memory, which stands for
-//! the machine's call by its phase. `step` answers as that machine does, and then stands for its next state. Each
-//! small function does what one of that machine's says: what that machine `settles`, this one has to `settle`.
+//! the machine's call by its phase. `step` answers as that machine does, and then stands for its next state. Each small
+//! function does what one of that machine's says, under its name as an imperative: `settle` for `settles`.
 //!
 //! Memory is taken before anything is changed: at want of memory the machine is as it was.
 //!
-//! What a call does by itself is there for the machine of a group of sessions, too.
+//! What a call does by itself is there for the machine of a group of sessions, too, and `copied_outputs` for
+//! `isolation`.
 //!
 //! It touches no RAM, no port and no thread.
 //!
@@ -17,40 +18,27 @@
 //!   application that the boot, or the applications built in beside it, has under a UUID; or want of memory.
 //! - `step` gives at each own event that can come the reply of `own_model`'s machine, none where that has none, and
 //!   stands for the machine's next state then, so that the next event can be fed; at want of memory it stands for the
-//!   machine as it was. A job is taken to its stop, however many steps that takes, and to just those that were done
-//!   where a cancellation is seen.
+//!   machine as it was. A job is taken to its stop, however many steps that takes, or, where a cancellation is seen,
+//!   through just the steps done by then.
 //! - An event can come where the machine's own `step` is defined and a call that runs and goes out stays below 2^128
 //!   steps, however long its buffers are. A call that comes in has to be among the session's first 2^32, since events
 //!   name calls by numbers of 32 bits: that is a condition, and no want of memory. Nothing else is said of an event
 //!   that can't come.
-//! - `copied_outputs` copies what is told of the parameters of a call that has ended, for `isolation` too.
+//! - `copied_outputs` copies what is told of the parameters of a call that has ended.
 //! - That the replies of a session in a history are these, event by event, follows with the law of isolation
 //!   (`own_model`); both are read off a journal by `isolation`. `core_cases` runs it.
 //!
 //! # Definitions
 //!
-//! - `app_in`, `entered_in`, `session_of`, `instance_of`, `without_calls` (`Standing`): what the code keeps as the
-//!   machine has it, but for its calls: before its open it has no session, no instance and nobody who waits
-//! - `IsCall` (`Calls`): a call as plain data is a call of the machine: it has the same kind, flag, steps and phase,
+//! - `IsCall` (`Calls`), a call as plain data beside one of the machine: it has the same kind, flag, steps and phase,
 //!   and an area and a buffer exactly where that has them
-//! - `IsBeside`, `IsCallAt`, `StandsFor` (`Standing`): the code stands for the machine: a call that has gone out ended
-//!   is none of the machine's
-//! - `IsSolo`, `IsSomeSolo` (`Standing`): and for one that is in order, whose application is valid, and none of whose
-//!   calls has a longer buffer than the longest that has come: a new one stands for `unopened` with the key of the boot
-//! - `found_at`, `beginning_with`, `start_of`, `from_start`, `idle_start`, `HasStart` (`Beginning`): what a call finds
-//!   and begins with: of a dead instance nothing runs
-//! - `woken_by`, `asked_in`, `asks_with_payload`, `placed_or_alloc`, `IsGoing`, `Ending`, `phase_of` (`GoingOut`): a
-//!   call as it goes out: one that waits asks to sleep, and for a buffer first where that has no place
-//! - `HasNumber`, `HasRoomIn`, `HasRoom`, `HasStepped`, `IsSilent` (`Stepping`): what a step asks and gives: a call
-//!   that comes in is among the first 2^32; of one that runs and goes out its steps and those to its stop are below
-//!   2^128
-//! - `IsFine`, `CanBeFed`, `IsFed` (`Feeding`): events that can come one after the other, each with a number for its
-//!   call and room for its steps, and a session's code that can be fed with them; the list of no events can be fed to
-//!   any machine
+//! - `StandsFor` (`Standing`), the code beside the machine: a call that has gone out ended is none of the machine's
+//! - `IsSolo`, `IsSomeSolo` (`Standing`): the code stands for a machine that is in order, whose application is valid,
+//!   and none of whose calls has a longer buffer than the longest that has come: a new one stands for `unopened` with
+//!   the key of the boot
 //!
-//! The definitions of the machine itself stand in `own_model`; here stands when the code is that machine. As the code
-//! is no function of it, nor it of the code (a call that has asked for something keeps less than its definition does),
-//! that is a relation.
+//! The definitions of the machine itself stand in `own_model`; here stands when the code is that machine. That is a
+//! relation and no function: a call that has asked for something keeps less than its definition does.
 #![tactic(auto)]
 
 mod apps;
