@@ -1,17 +1,18 @@
 //! What happens to the sessions of a single-instance application, what they are answered, and the machine that answers so
 //! when no other application is there.
 //!
-//! Such sessions share one instance, so that each can see what the others did; all of them are a group. The crate is one
-//! of definitions and laws. `specs/` reads in the order of its modules: `Group` is the machine of a group, a function from the
-//! application, its state and an event to the next state and a reply, where it takes the event; `Read` reads a group's events and
-//! replies off the kernels that a history goes through; `Tied` says when a kernel and a machine do the same next, over the calls in
-//! their slots (`Line`); and `Examples` has replies of small boots, where they agree. `laws`, `exits` and `resumes` have what leaves
-//! them tied, `machine` what holds of the machine alone, and `isolation` what follows of whole histories.
+//! Such sessions share one instance, so that each can see what the others did; all of them are a group. The crate is
+//! one of definitions and laws. `specs/` reads in the order of its modules:
+//! - `Group` is the machine of a group, a function from the application, its state and an event to the next state and a
+//!   reply, where it takes the event;
+//! - `Read` reads a group's events and replies off the kernels that a history goes through;
+//! - `Tied` says when a kernel and a machine do the same next, over the calls in their slots (`Line`);
+//! - `Examples` has replies of small boots, where they agree;
+//! - `Embedding` says what the state, the events and the replies of a session's machine (`own_model`) are in the
+//!   machine of a group that has this one session, and `OneLaw` which law both have.
 //!
-//! The machine of a session of `own_model` is that of a group which has this one session: `Embedding` says what its state, its events
-//! and its replies are there, which events can come, and that at these the two machines do the same (`embedding`). `OneLaw` says of which
-//! histories that holds, and what follows: a session whose application's sessions share no instance, and sessions that share one, are
-//! answered by one law (`one_law`).
+//! `laws`, `exits` and `resumes` have what leaves kernel and machine tied, `machine` what holds of the machine alone,
+//! `isolation` what follows of whole histories, and `embedding` and `one_law` what holds of sessions as groups.
 //!
 //! Nothing here touches RAM, a port or a thread.
 //!
@@ -19,40 +20,52 @@
 //!
 //! - After each legal history the sessions of each single-instance application of the boot were answered as the machine
 //!   of their group answers to the group's events (`groups_are_answered_as_alone`), the machine being made of the
-//!   application and the boot's key. So after any two legal histories, of any two boots that have one key, groups of
-//!   one application to which the same has happened were answered the same (`same_group_events_get_same_replies`), and
-//!   so were they as far as their first events are the same (`same_group_beginnings_get_same_replies`). Each session
-//!   that is kept on an instance of the application has its number in the group, and keeps it, whatever comes then
-//!   (`kept_sessions_are_of_the_group`).
-//! - On the way there: as a kernel boots it is tied to the machine of each group (`boots_are_tied`); tied they stay by
-//!   a fixed answer (`fixed_answers_keep_groups`), by an exit, a resume or a new call that isn't the group's
-//!   (`exits_of_others_keep_groups`, `resumes_of_others_keep_groups`, `calls_of_others_keep_groups`), by an interrupt
-//!   of a call of the group (`interrupts_keep_groups`), and by its new calls, other exits and resumes
-//!   (`own_calls_keep_groups`, `own_exits_keep_groups`, `own_resumes_keep_groups`). The machine stays in order, and
-//!   answers the same where it is given more steps to a stop (`machines_stay_in_order`, `more_steps_agree`).
-//! - Of seventeen small histories the check computes what the sessions were answered and what the machine answers to
-//!   their events, which is the same: sessions that share an instance, one that is busy, shared limits, a panic, opens
-//!   that fail, memory that is kept alive, an instance that is gone while an open waits, a call that waited for an
-//!   older instance, a cancel, calls with an area, and a call that sleeps until another wakes it. Of eleven of these,
-//!   and of one with calls of another application, the events are computed too.
-//! - The machine of a session of an application whose sessions share no instance is that of a group which has this one
-//!   session (`sessions_step_as_groups`): at each event that can come the one steps where the other does, to the same
-//!   with the same reply, and the group's refuses what the session's refuses, but for a second open. That no thread was
-//!   free for a new call happens to no group, and leaves the session what it is. So over events in a row the group is
-//!   told what the session is, but for that, and besides that its open has opened session 0
-//!   (`sessions_reply_as_groups`); and where the group's machine takes them and only the first is an open, so does the
-//!   session's (`groups_reply_as_sessions`). Can come means that the open is first, and an invoke, a close and a cancel
-//!   are in the opened session with its instance there: the session's machine alone takes them while it is being
-//!   opened, too, and a cancel at any time. What is noted of a session in a legal history could all come
-//!   (`own_events_can_come`).
-//! - One law of both: a session whose application's sessions share no instance, and the sessions that share one, were
-//!   answered as the machine of a group answers to what happened to them (`realms_are_answered_as_alone`), and under
-//!   one key those to whom the same has happened were answered the same (`same_realm_events_get_same_replies`). After a
-//!   legal history each session that the kernel keeps is one of these, and stays so (`kept_sessions_have_realms`). It
-//!   follows from the laws of sessions and of groups, whose ties to the kernel stay two: a group's names its instances
-//!   by their UUID, which the instances of several such sessions have, too.
-//! - What is said of each play (`play_model`), and of groups by the word `compare` (`compare_model`), rests on it. It
-//!   has no code but two types; its edits are of the definitions ("Wrong definitions of groups" in `docs/proofs.md`).
+//!   application and the boot's key.
+//! - So after any two legal histories, of any two boots that have one key, groups of one application to which the same
+//!   has happened were answered the same (`same_group_events_get_same_replies`), and so were they as far as their first
+//!   events are the same (`same_group_beginnings_get_same_replies`).
+//! - Each session that is kept on an instance of the application has its number in the group, and keeps it, whatever
+//!   comes then (`kept_sessions_are_of_the_group`).
+//! - The machine stays in order (`machines_stay_in_order`), and answers the same where it is given more steps to a stop
+//!   (`more_steps_agree`).
+//!
+//! On the way there, the kernel and the machine of a group are tied:
+//!
+//! | What ties them, or keeps them tied | Law |
+//! |---|---|
+//! | the boot, to the machine of each group | `boots_are_tied` |
+//! | a fixed answer | `fixed_answers_keep_groups` |
+//! | an exit, a resume or a new call that isn't the group's | `exits_of_others_keep_groups`, `resumes_of_others_keep_groups`, `calls_of_others_keep_groups` |
+//! | an interrupt of a call of the group | `interrupts_keep_groups` |
+//! | its new calls, other exits and resumes | `own_calls_keep_groups`, `own_exits_keep_groups`, `own_resumes_keep_groups` |
+//!
+//! Small histories are computed (`specs/Examples.antt`): what their sessions were answered, and what the machine
+//! answers to their events, which is the same.
+//!
+//! The machine of a session of an application whose sessions share no instance is that of a group which has this one
+//! session:
+//! - At each event that can come the one steps where the other does, to the same with the same reply, and the group's
+//!   refuses what the session's refuses, but for a second open (`sessions_step_as_groups`).
+//! - That no thread was free for a new call happens to no group, and leaves the session what it is.
+//! - So over events in a row the group is told what the session is, but for that, and besides that its open has opened
+//!   session 0 (`sessions_reply_as_groups`). Where the group's machine takes them and only the first is an open, so
+//!   does the session's (`groups_reply_as_sessions`).
+//! - *Can come* means that the open is first, and an invoke, a close and a cancel are in the opened session with its
+//!   instance there. The session's machine alone takes them while it is being opened, too, and a cancel at any time.
+//! - What is noted of a session in a legal history could all come (`own_events_can_come`).
+//!
+//! One law of both:
+//! - A session whose application's sessions share no instance, and the sessions that share one, were answered as the
+//!   machine of a group answers to what happened to them (`realms_are_answered_as_alone`). Under one key those to whom
+//!   the same has happened were answered the same (`same_realm_events_get_same_replies`).
+//! - After a legal history each session that the kernel keeps is one of these, and stays so
+//!   (`kept_sessions_have_realms`).
+//! - It follows from the laws of sessions and of groups, whose ties to the kernel stay two: a group's names its
+//!   instances by their UUID, which the instances of several such sessions have, too.
+//!
+//! What is said of each play (`play_model`), and of groups by the word `compare` (`compare_model`), rests on it. The
+//! crate has no code but two types; its edits are of the definitions ("Wrong definitions of groups" in
+//! `docs/wrong-bodies.md`).
 #![tactic(auto)]
 
 mod embedding;
