@@ -10,8 +10,7 @@
 //!
 //! Events that some legal and steady history begins with are one themselves (`prefixes_can_be`). Each journal of a boot
 //! that a core can have has a verdict (`each_has_a_verdict`), and just one (`one_verdict`). The check works out
-//! verdicts on small journals, of which one has reads that differ in one byte. `audit` computes a journal's verdict; it
-//! has no edit.
+//! verdicts on small journals, of which one has reads that differ in one byte. `audit` computes a journal's verdict.
 #![tactic(auto)]
 
 mod laws;

@@ -10,13 +10,14 @@
 //!
 //! # What is proved
 //!
-//! `read_script` reads each text that spells a script of a client as that script, and refuses any other by its first
-//! fault, unless memory runs out. What is read is within the limits of a script: its boot is one that a core can be
-//! given, with two threads or more, and each call has a name, at most four parameters, and memory of 1 to 65,536 bytes;
-//! an application is named by sixteen bytes, an invoke is cancelled, if at all, before the answer to its return of
-//! number 1 to 1000, and each name is opened by one call, which comes before all others with that name. A text spells
-//! one script, or has one first fault, and not both (`every_text_has_one_meaning`). The texts of thirty-four scripts
-//! have the first fault that is written there, and two spell their scripts.
+//! - `read_script` reads each text that spells a script of a client as that script, and refuses any other by its first
+//!   fault, unless memory runs out.
+//! - What is read is within the limits of a script. Its boot is one that a core can be given, with two threads or more;
+//!   each call has a name, at most four parameters, and memory of 1 byte to the memory limit. An application is named
+//!   by sixteen bytes, an invoke is cancelled, if at all, before the answer to its return of number 1 to 1000, and each
+//!   name is opened by one call, which comes before all others with that name.
+//! - A text spells one script, or has one first fault, and not both (`every_text_has_one_meaning`).
+//! - The texts of thirty-four scripts have the first fault that is written there, and two spell their scripts.
 #![tactic(auto)]
 
 mod call_kind;

@@ -12,7 +12,7 @@
 //! of groups (`journals_are_answered_alone`). So where two journals of boots with one key show the same of it, it was
 //! answered the same in both (`same_journals_give_same_replies`); where the keys differ they are told as two. The check
 //! works out all five answers on two journals and a session, and on two journals and a group. Each pair of journals
-//! whose boots a core can have has an answer: `compare_on` of `session_compare` computes it. The crate has no edit.
+//! whose boots a core can have has an answer: `compare_on` of `session_compare` computes it.
 #![tactic(auto)]
 
 mod compared;

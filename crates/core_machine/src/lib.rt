@@ -9,10 +9,11 @@
 //! # What is proved
 //!
 //! A new machine stands at the play where nothing has happened. `Machine::with_fills` makes one of a core and of fills,
-//! at the first play of these whose entries may read as much as the core's; `Machine::booted` makes one of the boot and
-//! the fills of a trace, whose core keeps its events, and whose entries may read 2^28 bytes. `first_lanes` gives each
-//! processor zeros with the fills. No call changes the core's terms. Where a machine stands at a play (`IsAt`: boot,
-//! history, kernel, how much entries may read, and RAM),
+//! at the first play of these whose entries may read as much as the core's. `Machine::booted` makes one of the boot and
+//! the fills of a trace, whose core keeps its events, and whose entries may read up to the read limit. `first_lanes`
+//! gives each processor zeros with the fills. No call changes the core's terms.
+//!
+//! Where a machine stands at a play (`IsAt`: boot, history, kernel, how much entries may read, and RAM),
 //! - `enter` brings it to the play's entry of that visitor and does the granted steps, or is refused just where the
 //!   play's is, with the bytes that were read and would be. A refused entry, for want of memory too, leaves it at the
 //!   same play;
@@ -20,7 +21,7 @@
 //!   which the granted steps of its call have ended, if they did;
 //! - `write` makes the play's write; `show` lends the bytes that the play would show, and `ram` all of them;
 //!   `is_inside` tells who is inside;
-//! - `serve` takes a list of entries and exits, each processor's by turns (`CanAllCome`): all of it comes, and the
+//! - `serve` takes a list of entries and exits, each processor's by turns (`CanAllCome`). All of it comes, and the
 //!   machine stands at the play after the list's items, whose lines are the answers; or so many come, and then the next
 //!   is refused in that play too, or memory was wanting. Answers have their room before the first entry, so that none
 //!   is lost. Behind it the events are legal and extend those before.
@@ -31,17 +32,6 @@
 //! (`turns_are_taken`).
 //!
 //! # Definitions
-//!
-//! - `MayCome`, `inside_after`, `ComeInTurn` (`Turns`): each processor comes in and goes out by turns: where processor
-//!   1 is inside, it can go out, and no other
-//! - `IsAt`, `begun`, `play_of`, `CanCome`, `CanAllCome` (`Standing`): the play at which a machine stands, and what can
-//!   come to it: a machine of a core without events stands at the play where nothing has happened
-//! - `IsRefused`, `EntersAt`, `LeavesAt` (`Moving`): behind an entry or an exit the machine stands at the play after
-//!   it: at a refusal it still stands at the play before
-//! - `item_of`, `line_of`, `HasCome`, `IsWhy`, `HasStopped`, `ServesAt`, `Serves`, `Extends` (`Serving`): a list of
-//!   entries and exits as items of a play: the answers are the lines that those items print
-//! - `MachinesStand`, `TurnsAreTaken` (`Laws`): what holds of machines and the plays at which they stand: each machine
-//!   stands at a play
 //!
 //! A machine says nothing of the lines that a play has printed: what it prints is what its calls answer.
 #![tactic(auto)]

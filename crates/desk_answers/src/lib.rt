@@ -9,7 +9,7 @@
 //! # What is proved
 //!
 //! `duty_of` is the definition's duty, where a new call's first read is the head of its argument; `answer` gives the
-//! registers that are told, the result that is written and the desk after, as the definitions say. It has no edit.
+//! registers that are told, the result that is written and the desk after, as the definitions say.
 #![tactic(auto)]
 
 mod answering;

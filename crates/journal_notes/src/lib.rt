@@ -11,23 +11,16 @@
 //!
 //! # What is proved
 //!
-//! Notes of a type (`EventNotes`) are of somebody, have a log by each history, and say when they are what is noted by
-//! one (`Meaning`). Where they are what is noted by the events that a `Replay` has done, `read` does an event of any
-//! journal again and answers with what it adds to the log, or that no legal and steady history goes on with it
-//! (`Reads`), or want of memory; `read_all` gives the whole log of a journal that begins a legal and steady history, or
-//! tells want of memory. Both ask that the reads of all entries have at most 2^28 bytes. What an entry is for them is
-//! told before it, and noted once it is done. What the notes of a type are by an event is promised by that type's own
-//! methods: `isolation` has a session's and `instance_groups` a group's, and neither does an event again by itself.
-//!
-//! # Definitions
-//!
-//! - `Meaning`, `same_subject`, `IsNoted`, `log_on`, `AreOn`, `AreKept` (`Meaning`): whose notes are, what their log is
-//!   by a history, and when they are what is noted by it
-//! - `Goes`, `IsExitNoted`, `HasGrown`, `HasTaken` (`Meaning`): an event is noted: the log has grown by what was
-//!   listed, and that is taken
-//! - `Reader`, `log_of`, `IsReading`, `HasRead`, `Reads`, `HasReadAll` (`Reading`): how far a log was read, whoever it
-//!   is of: an event adds to it, or can't come next
-//! - `events_in`, `replies_in` (`Logs`): the events of a log and its replies, of which an event may have none
+//! - Notes of a type (`EventNotes`) are of somebody, have a log by each history, and say when they are what is noted by
+//!   one (`Meaning`).
+//! - Where they are what is noted by the events that a `Replay` has done, `read` does an event of any journal again and
+//!   answers with what it adds to the log, or that no legal and steady history goes on with it (`Reads`), or want of
+//!   memory.
+//! - `read_all` gives the whole log of a journal that begins a legal and steady history, or tells want of memory.
+//! - Both ask that the reads of all entries stay within the read limit. What an entry is for them is told before it,
+//!   and noted once it is done.
+//! - What the notes of a type are by an event is promised by that type's own methods: `isolation` has a session's and
+//!   `instance_groups` a group's, and neither does an event again by itself.
 #![tactic(auto)]
 
 mod logged;

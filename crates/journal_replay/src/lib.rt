@@ -10,13 +10,15 @@
 //!
 //! # What is proved
 //!
-//! A `Replay` is a core on which the events of a journal are done again, whoever made it. `redo` answers true where the
-//! event was done behind those before it, false where those and this one are no legal and steady history, whatever the
-//! event is, or tells want of memory (`Does`): true exactly where they are one, since the events that were done always
-//! are (`replays_are_faultless`). It asks that the reads of all entries have at most 2^28 bytes. Its entry is lent in
-//! two parts, `lay_for` and `enter`, between which more can be read off the core. `lay` lays reads into RAM: where each
-//! is of some bytes of RAM, and no two have different bytes at one address, RAM then has the bytes of all of them. The
-//! reads of an entry of a legal and steady history are such, so a core reads them again.
+//! - A `Replay` is a core on which the events of a journal are done again, whoever made it.
+//! - `redo` answers true where the event was done behind those before it, false where those and this one are no legal
+//!   and steady history, whatever the event is, or tells want of memory (`Does`). So true comes exactly where they are
+//!   one, since the events that were done always are (`replays_are_faultless`). It asks that the reads of all entries
+//!   stay within the read limit. Its entry is lent in two parts, `lay_for` and `enter`, between which more can be read
+//!   off the core.
+//! - `lay` lays reads into RAM: where each is of some bytes of RAM, and no two have different bytes at one address, RAM
+//!   then has the bytes of all of them. The reads of an entry of a legal and steady history are such, so a core reads
+//!   them again.
 #![tactic(auto)]
 
 mod comparing;

@@ -11,16 +11,18 @@
 //!
 //! # What is proved
 //!
-//! `read_line` judges a line of a conversation behind all lines before it, of which it is lent a scene alone, so that a
-//! bad line changes nothing: it gives the first rule of a trace with signals, or of `history off`, that the line
-//! breaks, or what the line says, which leads from the lines before it to those with it, unless memory runs out. What
-//! it says stands in its place: a boot is the first of a trace, `history off` stands before it, an application, a fill
-//! and a key behind it and before all items and signals, and an item and a signal behind it. `Scene::take` and
-//! `Scene::forget` give the scene behind what a line says. Lines that keep their rules stay within the limits of a
-//! trace, wherever signals stand, but for processors that may be inside (`lines_stay_sound`). Of twenty-four lines what
-//! they say, or their first fault, is written there, and two scenes. `read_question` tells a line that asks from all
-//! others by its first word, and gives what it asks, or the first rule of a question that it breaks (`IsAsked`), and
-//! never want of memory; 25 lines are examples of it (`questions_asked`).
+//! - `read_line` judges a line of a conversation behind all lines before it, of which it is lent a scene alone, so that
+//!   a bad line changes nothing. It gives what the line says, which leads from the lines before it to those with it, or
+//!   the first rule of a trace with signals, or of `history off`, that the line breaks, unless memory runs out.
+//! - What it says stands in its place: a boot is the first of a trace, `history off` stands before it, an application,
+//!   a fill and a key behind it and before all items and signals, and an item and a signal behind it.
+//! - `Scene::take` and `Scene::forget` give the scene behind what a line says.
+//! - Lines that keep their rules stay within the limits of a trace, wherever signals stand, but for processors that may
+//!   be inside (`lines_stay_sound`).
+//! - `read_question` tells a line that asks from all others by its first word, and gives what it asks, or the first
+//!   rule of a question that it breaks (`IsAsked`), and never want of memory.
+//! - Of twenty-four lines what they say, or their first fault, is written there, and two scenes; 25 lines are examples
+//!   of questions (`questions_asked`).
 #![tactic(auto)]
 
 mod asking;

@@ -1,9 +1,11 @@
 //! What the play of a trace with signals is, where a desk of signals answers above the core.
 //!
-//! The crate is one of definitions, over the play of a trace. `specs/` reads in the order of its modules: `Duty` has what an
-//! exit asks of the desk, `Told` what a processor is then told and what is written, `NotifyPlay` the play, `Text` the bytes
-//! that a trace prints, `Asked` what the desk is asked by steps and by exits, `Order` which histories hold what steps let happen and
-//! what is told then, and `Laws` what holds of each play.
+//! The crate is one of definitions, over the play of a trace. `specs/` reads in the order of its modules:
+//! - `Duty`, `Told`: what an exit asks of the desk, and what a processor is then told and what is written
+//! - `NotifyPlay`, `Text`: the play, and the bytes that a trace prints
+//! - `Asked`: what the desk is asked by steps and by exits
+//! - `Order`: which histories hold what steps let happen, and what is told then
+//! - `Laws`: what holds of each play
 //!
 //! Nothing here touches RAM, a port or a thread.
 //!
@@ -15,15 +17,16 @@
 //!   kernel's own answer. So what holds of legal histories holds of it: of returns from RPC, which change nothing but
 //!   the history where they find no call, of the thread limit, of sessions that share no instance, and of those that
 //!   share one;
-//! - its entries read at most as many bytes in all as they may, 2^28 where the trace is played by `notify`, and a
-//!   refused one would have passed that;
+//! - its entries read at most as many bytes in all as they may, up to the read limit where the trace is played by
+//!   `notify`, and a refused one would have passed that;
 //! - a bottom half that comes next calls exactly the drivers that were signalled, while signals counted, since the last
 //!   bottom half or stop, each with the number of these signals, at most 2^32 - 1.
 //!
-//! The play holds its steps in their order, all of them or those before a refused entry (`steps_hold_in_order`): its
-//! history is the entries and exits that they let happen, where `=i` is a register as it was told, with each signal at
-//! its place; and the returns that it prints are the exits of that history, each once and in their order, with the
-//! kernel's answer, or with what the desk makes of it, as it stands by then.
+//! The play holds its steps in their order, all of them or those before a refused entry (`steps_hold_in_order`):
+//! - its history is the entries and exits that they let happen, where `=i` is a register as it was told, with each
+//!   signal at its place;
+//! - the returns that it prints are the exits of that history, each once and in their order, with the kernel's answer,
+//!   or with what the desk makes of it, as it stands by then.
 //!
 //! From each play on, so also over any part of its steps, the desk gets exactly the signals of the steps that are
 //! taken, in their order, and what the exits of the history ask of it, in theirs; all steps are taken, unless an entry
@@ -34,8 +37,7 @@
 //! kernel has said so, and where it says so to a new call, that is told (`limit_is_the_kernels`): the desk makes none,
 //! and hides none.
 //!
-//! The plays of seven short scripts and of seven longer ones print what is written there, byte for byte. It has no
-//! edit.
+//! The plays of seven short scripts and of seven longer ones print what is written there, byte for byte.
 #![tactic(auto)]
 
 mod laws;

@@ -14,9 +14,9 @@
 //! `play_on_threads` needs a core with no events that keeps those to come, as many lanes as processors, and that each
 //! processor comes in and goes out by turns. It gives back, or finds no memory:
 //! - the core, with its boot, and the one history of all, which is legal;
-//! - where the core was booted as a trace says, these are its items and each lane has its fills over zeros: the text is
-//!   the blocks of the trace in an order that is that history with refused entries at their places; the play in that
-//!   order has that history; and an entry of it was refused just where that is said.
+//! - where the core was booted as a trace says, the processors' items are the trace's, and each lane has its fills over
+//!   zeros: the text is the blocks of the trace in an order that is that history with refused entries at their places.
+//!   The play in that order has that history, and an entry of it was refused just where that is said.
 //!
 //! One processor's own items, on a core that it shares, are played by `play_cpu`. It needs a pass that has made
 //! nothing, and that the processor comes in and goes out by turns, within the limits of a trace. It gives back
@@ -28,44 +28,26 @@
 //!   have read;
 //! - where there was no memory: nothing of RAM and block. What was begun is ended all the same.
 //!
-//! Of the works of all processors of a trace:
+//! Of the work of all processors of a trace:
 //! - Each processor of a trace within its limits comes in and goes out by turns (`sound_traces_are_in_turn`), as
 //!   `play_cpu` needs.
-//! - How a work has ended by what its pass has seen, not for want of memory, holds of each history that the pass is in,
-//!   as that of a closed core is (`ends_stay`); so do those of all processors, by their numbers (`ends_gather`).
-//! - Where all works have ended over one legal history, whose entries have read at most 2^28 bytes, the blocks of the
-//!   trace in the order of that history, with each refused entry at the end of what its pass had seen, are what they
-//!   have printed, one behind the other (`ends_merge`); so they are on a core that is had back (`ends_are_played`).
+//! - How the work of a processor has ended by what its pass has seen, not for want of memory, holds of each history
+//!   that the pass is in, as that of a closed core is (`ends_stay`); so does how the work of all has ended, by their
+//!   numbers (`ends_gather`).
+//! - Where the work of all has ended over one legal history, whose entries stay within the read limit, what was printed
+//!   are the blocks of the trace, one behind the other, in the order of that history, with each refused entry at the
+//!   end of what its pass had seen (`ends_merge`). So it is on a core that is had back (`ends_are_played`).
 //!
 //! Not proved: that either call ever returns, since a turn may not come, and that memory is found; that any thread is
 //! started, since the caller may do all work.
 //!
 //! # Definitions
 //!
-//! - `IsSoundEntry`, `AreInTurn`, `StaysInTurn` (`InTurn`): what a processor can do from item to item: behind an entry
-//!   that was refused it is outside
-//! - `IsReady`, `IsOn`, `GoesOn` (`Standing`): its pass is one of the core's, and has seen all that it had seen; the
-//!   work that it keeps is that of its open entry
-//! - `ComesToSeat`, `share_in`, `StandsAt`, `HasComeTo` (`Standing`): by its part of the history that its pass has
-//!   seen, it has come to where it stands, and has printed that
-//! - `HasGoneOut`, `IsRefused`, `LeadsTo`, `IsNew` (`Standing`): between an exit and its line; behind a refused entry;
-//!   by what an act answers; before the first
-//! - `HasDoneAll`, `WasRefused`, `EndsAs`, `end_of` (`Ending`): where there was no memory nothing is said of the block
 //! - `place_by`, `place_of`, `places_of` (`Ended`): a refused entry comes at the end of what its pass had seen
-//! - `HasEndedAt`, `HasEnded`, `HasEndedOn`, `HaveEnded`, `texts_of` (`Ended`): the same of each processor over one
-//!   history, in which others have come and gone since
 //! - `CanPlay`, `HasPlayed` (`Work`): one processor's pass and RAM, and what came back of them
-//! - `lacks_memory`, `was_refused` (`Work`): what an outcome says
-//! - `TakeTurns`, `IsOfTrace`, `WasPlayed` (`Played`): items alone are given; what is printed is said of each trace
-//!   that they and the core's boot are of
-//! - `SoundTracesAreInTurn` (`Laws`): a trace within its limits needs no test of turns
-//! - `EndsStay`, `EndsGather`, `EndsMerge` (`Laws`): what a pass has seen is enough for what is printed of the whole
-//! - `AllPlayed`, `EndsArePlayed` (`Laws`): the works of all processors, by their numbers, with the core that was
-//!   closed behind them
-//!
-//! A player writes and shows RAM at once, and a part of a history does so up to its processor's next entry or exit. So
-//! the part is said to stand where the player will stand once it has done that (`ready_for`), and writing and showing
-//! bring the two together with no proof.
+//! - `StandsAt` (`Standing`): a player writes and shows RAM at once, and a part of a history does so up to its
+//!   processor's next entry or exit, so the part is said to stand where the player will stand once it has done that
+//!   (`ready_for`)
 #![tactic(auto)]
 
 mod cpu_playing;

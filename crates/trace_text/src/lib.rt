@@ -8,14 +8,15 @@
 //!
 //! # What is proved
 //!
-//! `read_trace` answers Ok exactly for the texts of the grammar, each with its trace, or want of memory; `Bad` has
-//! exactly the text's first fault, its kind and its place, which is at most the number of lines and one more; each text
-//! spells one trace or has one first fault (`one_meaning`). What is read is within the limits of a trace (`IsSound`):
-//! its boot is one that a core can be given, its bytes lie in RAM, and each processor's entries and exits come in turn
-//! and are ended. What a line's image is follows `ta_isa`. Its boot's key is that of the line `key`, which stands once
-//! at most, and without one 32 zeros. A line is judged by itself (`Scene::judge`), by what the rules look at of the
-//! lines before it: it gives what the line says (`said_in`), which stands in its place, or the first rule that it
-//! breaks, unless memory runs out; `Scene::take` gives the scene behind it.
+//! - `read_trace` answers Ok exactly for the texts of the grammar, each with its trace, or want of memory. `Bad` has
+//!   exactly the text's first fault, its kind and its place, which is at most the number of lines and one more. Each
+//!   text spells one trace or has one first fault (`one_meaning`).
+//! - What is read is within the limits of a trace (`IsSound`): its boot is one that a core can be given, its bytes lie
+//!   in RAM, and each processor's entries and exits come in turn and are ended. What a line's image is follows
+//!   `ta_isa`. The boot's key is that of the line `key`, which stands once at most, and without one 32 zeros.
+//! - A line is judged by itself (`Scene::judge`), by what the rules look at of the lines before it: it gives what the
+//!   line says (`said_in`), which stands in its place, or the first rule that it breaks, unless memory runs out.
+//!   `Scene::take` gives the scene behind it.
 #![tactic(auto)]
 
 mod builder;
