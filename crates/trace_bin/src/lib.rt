@@ -7,13 +7,16 @@
 //!
 //! # What is proved
 //!
-//! `read_binary` answers Ok exactly for the bytes of the grammar of records, each with its trace, or want of memory;
-//! `Bad` has exactly the bytes' first fault, its kind and its place. What is read is within the limits of a trace
-//! (`IsSound`). All bytes spell one trace or have one first fault, and not both (`one_meaning`). `write_binary` gives
-//! one spelling of a trace that is within its limits and has a boot, with a record for a key that isn't of zeros, and
-//! those bytes are spelled as that trace, whatever is built in but has none of its UUIDs (`written_is_read`). The
-//! program reaches `read_binary` alone. Tested outside the gate: a program reads a binary trace with a record of each
-//! kind but the key's, which takes no memory, and ends in want of memory whichever one of its allocations is refused.
+//! - `read_binary` answers Ok exactly for the bytes of the grammar of records, each with its trace, or want of memory.
+//!   `Bad` has exactly the bytes' first fault, its kind and its place. What is read is within the limits of a trace
+//!   (`IsSound`). All bytes spell one trace or have one first fault, and not both (`one_meaning`).
+//! - `write_binary` gives one spelling of a trace that is within its limits and has a boot, with a record for a key
+//!   that isn't of zeros. Those bytes are spelled as that trace, whatever is built in but has none of its UUIDs
+//!   (`written_is_read`).
+//!
+//! The program reaches `read_binary` alone. Tested outside the gate: a program reads a binary trace with a record of
+//! each kind but the key's, which takes no memory, and ends in want of memory whichever one of its allocations is
+//! refused.
 #![tactic(auto)]
 
 mod body;

@@ -8,16 +8,19 @@
 //!
 //! # What is proved
 //!
-//! `read_whole` gives all bytes that the source had, at most 2^24, or the status of a word where the source failed, or
-//! there are more, or memory ran out. `read_input` gives what they spell in a word's grammar, with nothing written; or
-//! it answers an input that isn't read whole, or that leaves the grammar. Lines are put whole, or kept, or the sink
-//! failed or memory ran out behind a part of them (`put_lines`, `put_if_many`, `end_at`); a failed write is one that
-//! the sink has counted (`StopTellsFaults`). `answer_line` gives the named status with the whole line, or WriteFault or
-//! Memory with a part of it, `answer_fault` so the line of an input that leaves its grammar; `Status::number`. Its
-//! definitions say of each word that reads an input (`Word`) what it comes to, what each status says then, and which
-//! inputs are served or refused whole (`Keeps`); that the one gives the others is proved once, for all such words.
-//! `run_word` is the call of any of them (`InputWord`), by what its `read` and its `serve` say: it keeps to the word,
-//! and shows what the word shows besides (`KeepsTo`).
+//! - `read_whole` gives all bytes that the source had, at most the input limit, or the status of a word where the
+//!   source failed, or there are more, or memory ran out.
+//! - `read_input` gives what they spell in a word's grammar, with nothing written; or it answers an input that isn't
+//!   read whole, or that leaves the grammar.
+//! - Lines are put whole, or kept, or the sink failed or memory ran out behind a part of them (`put_lines`,
+//!   `put_if_many`, `end_at`); a failed write is one that the sink has counted (`StopTellsFaults`).
+//! - `answer_line` gives the named status with the whole line, or WriteFault or Memory with a part of it, and
+//!   `answer_fault` so the line of an input that leaves its grammar. `Status::number` gives the number of a status.
+//! - The definitions say of each word that reads an input (`Word`) what it comes to, what each status says then, and
+//!   which inputs are served or refused whole (`Keeps`); that the one gives the others is proved once, for all such
+//!   words.
+//! - `run_word` is the call of any of them (`InputWord`), by what its `read` and its `serve` say: it keeps to the word,
+//!   and shows what the word shows besides (`KeepsTo`).
 #![tactic(auto)]
 
 mod answer;

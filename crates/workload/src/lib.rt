@@ -7,9 +7,10 @@
 //!
 //! # What is proved
 //!
-//! `make_work` gives the trace of its definition, whose boot has a key of zeros, for every seed and up to 65,536 calls,
-//! or want of memory. In each trace that the definition gives, for any number of calls, a call has no argument or one
-//! at 40000000, and what is written there is a whole argument of at most 96 bytes (`made_traces_read_little`).
+//! `make_work` gives the trace of its definition, whose boot has a key of zeros, for every seed and up to as many calls
+//! as the item limit, or want of memory. In each trace that the definition gives, for any number of calls, a call has
+//! no argument or one at 40000000, and what is written there is a whole argument of at most 96 bytes
+//! (`made_traces_read_little`).
 #![tactic(auto)]
 
 mod calls;
