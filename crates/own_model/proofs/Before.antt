@@ -26,7 +26,7 @@ use Rattle.kernel_model.specs.NewCall.{NewCall, cancels, keeps_buffers, named_se
 use Rattle.kernel_model.specs.NewCall.{settles, settles_invoke, settles_open, shared_by}
 use Rattle.kernel_model.specs.Sound.{call_at}
 use Rattle.kernel_model.specs.SoundNumbers.{AreNumbered}
-use Rattle.kernel_model.specs.SoundCalls.{is_told}
+use Rattle.kernel_model.specs.SoundCalls.{is_over, is_told}
 use Rattle.kernel_model.proofs.Parts.{if-both}
 use Rattle.kernel_model.proofs.SoundMaps.{if_some}
 use Rattle.job_model.specs.declared.call_kind.CallKind.TheVariants as kind
@@ -47,9 +47,10 @@ use Rattle.own_model.specs.Solo.{unopened}
 
 -- ---- what comes in
 
--- the call opens the session, and its result wasn't told yet
+-- the call opens the session, and hasn't ended
 pub record IsItsOpen (session : ℕ) (call : PendingCall) : Type 0 where
   pub kind : call.kind ≡ kind.Open
+  pub pending : is_over call.phase ≡ false
   pub untold : is_told call.phase ≡ false
   pub of_session : call.session ≡ session
 
@@ -142,7 +143,7 @@ begins_one session slots c wanted of copies early is true same =
       uuid = refl;
       noted = ap (λ b. if b then Some (Open (params_of (begun_by c wanted of copies).job)
           (begun_by c wanted of copies).job.login (is_some c.area)) else None) same;
-      opens = record { kind = refl; untold = refl; of_session = tied_numbers c.tables.next_session session same };
+      opens = record { kind = refl; pending = refl; untold = refl; of_session = tied_numbers c.tables.next_session session same };
       tied = λ alone. opens_tied c wanted of copies slots early.free early.below alone;
     })
 begins_one session slots c wanted of copies early is false other =
@@ -163,7 +164,7 @@ waits_one session slots c wanted of copies kept early is shared true same =
       of_boot = ap (λ u. app_of c.boot u) (app_named c.boot wanted.uuid of is) ∙ is;
       shares = (if_some (is_single of) _ kept shared).0;
       uuid = refl;
-      opens = record { kind = refl; untold = refl; of_session = tied_numbers c.tables.next_session session same };
+      opens = record { kind = refl; pending = refl; untold = refl; of_session = tied_numbers c.tables.next_session session same };
     })
 waits_one session slots c wanted of copies kept early is shared false other =
     Another (ap (λ b. if b then None else None) other) (next_is_less c.tables.next_session session early.before other)

@@ -25,6 +25,21 @@ pub record AreBelow (slots : List ThreadSlot) (tables : Tables) : Type 0 where
   pub calls : (slot : ℕ) (call : PendingCall) → call_at slots slot ≡ Some call
       → IsBelow tables call.session call.instance
 
+-- a call in a slot, without its mark
+unmarked_in : (held : ThreadSlot) (call : PendingCall) → call_in held ≡ Some call
+    → sound.call_in held ≡ Some (sound.unmarked call)
+unmarked_in Free call e = absurd cc
+unmarked_in (Active cpu other) call e = let same : other ≡ call = cc in
+    ap (λ (c : PendingCall). Some (sound.unmarked c)) same
+unmarked_in (Suspended client other) call e = let same : other ≡ call = cc in
+    ap (λ (c : PendingCall). Some (sound.unmarked c)) same
+
+pub unmarked_there : (slots : List ThreadSlot) (slot : ℕ) (call : PendingCall) → call_at slots slot ≡ Some call
+    → sound.call_at slots slot ≡ Some (sound.unmarked call)
+unmarked_there slots slot call found =
+    option_and_then_some call_in (slice_get slots slot) call found
+    (λ held is in_it. ap (λ (o : Option ThreadSlot). option_and_then sound.call_in o) is ∙ unmarked_in held call in_it)
+
 -- the numbers that were given lie below the next ones
 pub below_numbers : (kernel : Kernel) → AreNumbered (sound.call_at kernel.slots) kernel.tables
     → AreBelow kernel.slots kernel.tables
@@ -41,23 +56,9 @@ below_numbers kernel numbers = record {
       (λ (waiter : Waiter). waiter.instance < kernel.tables.next_instance)
       (λ waiter given. given.1) kernel.tables.waiters numbers.waiters;
   calls = λ slot call found.
-      let given = numbers.given slot (sound.unmarked call) (unmarked_there kernel slot call found) in
+      let given = numbers.given slot (sound.unmarked call) (unmarked_there kernel.slots slot call found) in
       (given.session, given.instance);
 }
   where
     at_least : (a b : ℕ) → 1 ≤ a → a ≤ b → 1 ≤ b
     at_least a b one le = omega arith
-
-    held : (slot : ThreadSlot) (call : PendingCall) → call_in slot ≡ Some call
-        → sound.call_in slot ≡ Some (sound.unmarked call)
-    held Free call e = absurd cc
-    held (Active cpu other) call e = let same : other ≡ call = cc in
-        ap (λ (c : PendingCall). Some (sound.unmarked c)) same
-    held (Suspended client other) call e = let same : other ≡ call = cc in
-        ap (λ (c : PendingCall). Some (sound.unmarked c)) same
-
-    unmarked_there : (k : Kernel) (slot : ℕ) (call : PendingCall) → call_at k.slots slot ≡ Some call
-        → sound.call_at k.slots slot ≡ Some (sound.unmarked call)
-    unmarked_there k slot call found =
-        option_and_then_some call_in (slice_get k.slots slot) call found
-        (λ there is onward. ap (λ (o : Option ThreadSlot). option_and_then sound.call_in o) is ∙ held there call onward)

@@ -22,7 +22,7 @@ use Rattle.kernel_model.specs.Kernel.{Active, Free, Kernel, PendingCall, Process
 use Rattle.kernel_model.specs.Kernel.{ThreadSlot, Visit}
 use Rattle.kernel_model.specs.Resume.{onward_of, resumed_call}
 use Rattle.kernel_model.specs.Sound.{call_in, unmarked}
-use Rattle.kernel_model.specs.SoundCalls.{is_told}
+use Rattle.kernel_model.specs.SoundCalls.{is_over, is_told}
 use Rattle.kernel_model.proofs.EntryLaws.{resumes_call}
 use Rattle.kernel_model.proofs.FixedAnswer.{fixed_answers}
 use Rattle.kernel_model.proofs.OfOneApp.{HasOpen}
@@ -46,6 +46,11 @@ use Rattle.own_model.specs.Solo.{unopened}
 
 -- ---- what comes next
 
+-- the open of the session is in a slot, and hasn't ended
+pub record IsOpening (session : ℕ) (uuid : List ℕ) (kernel : Kernel) : Type 0 where
+  pub has : HasOpen session uuid kernel
+  pub pending : is_over has.call.phase ≡ false
+
 -- it is still before the open; or it is with it, and the session's application shares no instance or does; or the open
 -- waits, for an instance that is shared
 pub data EarlyNext (boot : Booted) (session most : ℕ) (kernel next : Kernel) (now : Notes) : Type 0 where
@@ -53,12 +58,12 @@ pub data EarlyNext (boot : Booted) (session most : ℕ) (kernel next : Kernel) (
   NowOpen : (of : Application) → session ≡ kernel.tables.next_session → app_of boot (uuid_of of) ≡ Some of
       → now.uuid ≡ Some (uuid_of of) →
       is_single of ≡ false → GoesAlong (about_next boot of most kernel) no_notes (unopened boot.key) next now
-      → HasOpen session (uuid_of of) next → EarlyNext boot session most kernel next now
+      → IsOpening session (uuid_of of) next → EarlyNext boot session most kernel next now
   NowShared : (of : Application) → session < next.tables.next_session → app_of boot (uuid_of of) ≡ Some of
       → now.uuid ≡ Some (uuid_of of) →
-      is_single of ≡ true → HasOpen session (uuid_of of) next → EarlyNext boot session most kernel next now
+      is_single of ≡ true → IsOpening session (uuid_of of) next → EarlyNext boot session most kernel next now
   NowNameless : (of : Application) → session < next.tables.next_session → now ≡ no_notes
-      → app_of boot (uuid_of of) ≡ Some of → is_single of ≡ true → HasOpen session (uuid_of of) next
+      → app_of boot (uuid_of of) ≡ Some of → is_single of ≡ true → IsOpening session (uuid_of of) next
       → EarlyNext boot session most kernel next now
 
 -- ---- next numbers
@@ -137,15 +142,18 @@ fixed_early session kernel visit answer below before =
 -- its open is in a slot
 open_there : (session : ℕ) (next : Kernel) (cpu slot : ℕ) (call now : PendingCall) (uuid : List ℕ) → call ≡ now
     → IsItsOpen session call → call.uuid ≡ Some uuid → slice_get next.slots slot ≡ Some (Active cpu now)
-    → HasOpen session uuid next
+    → IsOpening session uuid next
 open_there session next cpu slot call now uuid same opens named there = record {
-  slot = slot;
-  call = unmarked now;
-  in_slot = ap (λ (o : Option ThreadSlot). option_and_then call_in o) there;
-  opens = ap (λ (c : PendingCall). c.kind) (sym same) ∙ opens.kind;
-  untold = ap (λ (c : PendingCall). is_told c.phase) (sym same) ∙ opens.untold;
-  of_session = ap (λ (c : PendingCall). c.session) (sym same) ∙ opens.of_session;
-  of_app = ap (λ (c : PendingCall). c.uuid) (sym same) ∙ named;
+  has = record {
+    slot = slot;
+    call = unmarked now;
+    in_slot = ap (λ (o : Option ThreadSlot). option_and_then call_in o) there;
+    opens = ap (λ (c : PendingCall). c.kind) (sym same) ∙ opens.kind;
+    untold = ap (λ (c : PendingCall). is_told c.phase) (sym same) ∙ opens.untold;
+    of_session = ap (λ (c : PendingCall). c.session) (sym same) ∙ opens.of_session;
+    of_app = ap (λ (c : PendingCall). c.uuid) (sym same) ∙ named;
+  };
+  pending = ap (λ (c : PendingCall). is_over c.phase) (sym same) ∙ opens.pending;
 }
 
 opens_next : (boot : Booted) (session most : ℕ) (kernel next : Kernel) (visit : Visit) (slot : ℕ)
@@ -153,7 +161,7 @@ opens_next : (boot : Booted) (session most : ℕ) (kernel next : Kernel) (visit 
     → (found : IsTaken (λ at taken. Coming boot session kernel.slots at kernel.tables taken) kernel next visit slot now)
     → (o : OpensIt boot session kernel.slots slot kernel.tables found.taken)
     → notes ≡ numbered no_notes slot now (Open o.params o.login o.area)
-    → HasOpen session (uuid_of o.of) next
+    → IsOpening session (uuid_of o.of) next
     → (single : Bool) → is_single o.of ≡ single → EarlyNext boot session most kernel next notes
 opens_next boot session most kernel next visit slot now notes found o is has true shares =
     NowShared o.of (subst (λ (k : Kernel). session < k.tables.next_session) found.gives o.is_now) o.of_boot

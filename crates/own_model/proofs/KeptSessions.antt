@@ -27,11 +27,11 @@ use Rattle.own_model.specs.Own.{Notes, event_noted, no_notes, noted, noted_from,
 -- ---- where a session stands
 
 -- its application was noted; or it shares an instance, for which its open waited
-abbrev IsNamed : Application → Option (List ℕ) → Type 0
+abbrev pub IsNamed : Application → Option (List ℕ) → Type 0
 IsNamed of uuid = (uuid ≡ Some (uuid_of of)) ⊎ ((uuid ≡ None) × (is_single of ≡ true))
 
 -- its open hasn't come in, or has
-data Stands (boot : Booted) (session : ℕ) (kernel : Kernel) (notes : Notes) : Type 0 where
+pub data Stands (boot : Booted) (session : ℕ) (kernel : Kernel) (notes : Notes) : Type 0 where
   Before : kernel.tables.next_session ≤ session → notes ≡ no_notes → Stands boot session kernel notes
   Since : (of : Application) (instance : ℕ) → IsOfApp session instance (uuid_of of) kernel
       → app_of boot (uuid_of of) ≡ Some of → IsNamed of notes.uuid → Stands boot session kernel notes
@@ -42,11 +42,11 @@ module _ (boot : Booted) (session : ℕ) where
       → EarlyNext boot session 0 kernel next now → Stands boot session next now
   by_next past kernel next now there (StillEarly same lower) = Before lower same
   by_next past kernel next now there (NowOpen of is_next of_boot uuid alone along has) =
-      Since of has.call.instance (opened_of_app boot past next there session (uuid_of of) has) of_boot (inl uuid)
+      Since of has.has.call.instance (opened_of_app boot past next there session (uuid_of of) has.has) of_boot (inl uuid)
   by_next past kernel next now there (NowShared of higher of_boot uuid shares has) =
-      Since of has.call.instance (opened_of_app boot past next there session (uuid_of of) has) of_boot (inl uuid)
+      Since of has.has.call.instance (opened_of_app boot past next there session (uuid_of of) has.has) of_boot (inl uuid)
   by_next past kernel next now there (NowNameless of higher same of_boot shares has) =
-      Since of has.call.instance (opened_of_app boot past next there session (uuid_of of) has) of_boot
+      Since of has.has.call.instance (opened_of_app boot past next there session (uuid_of of) has.has) of_boot
       (inr (ap (λ (n : Notes). n.uuid) same, shares))
 
   stands_next : (past : List Event) (kernel next : Kernel) (notes : Notes) (happened : Event)
@@ -75,15 +75,26 @@ module _ (boot : Booted) (session : ℕ) where
       (one_more boot past kernel next happened there comes) onward
       (stands_next past kernel next notes happened there comes stands)))
 
-  stands_after : (history : List Event) (kernel : Kernel) → 1 ≤ session → kernel_after boot history ≡ Some kernel
+  pub stands_after : (history : List Event) (kernel : Kernel) → 1 ≤ session → kernel_after boot history ≡ Some kernel
       → Stands boot session kernel (noted boot history session)
   stands_after history kernel from_one e =
       stands_on [] (first_kernel boot) kernel no_notes history refl e (Before from_one refl)
 
 -- ---- the law
 
-some_app : (one other : Application) → Some one ≡ Some other → one ≡ other
+pub some_app : (one other : Application) → Some one ≡ Some other → one ≡ other
 some_app one other e = cc
+
+-- where the application's sessions share no instance it was noted
+pub named_alone : (boot : Booted) (of app : Application) (uuid : Option (List ℕ)) → app_of boot (uuid_of of) ≡ Some of
+    → of ≡ app → is_single app ≡ false → IsNamed of uuid → option_and_then (app_of boot) uuid ≡ Some app
+named_alone boot of app uuid of_boot same alone (inl is) =
+    ap (λ (o : Option (List ℕ)). option_and_then (app_of boot) o) is ∙ of_boot ∙ ap (λ (a : Application). Some a) same
+named_alone boot of app uuid of_boot same alone (inr shared) =
+    let no : true ≡ false = sym shared.1 ∙ ap is_single same ∙ alone in absurd cc
+
+pub not_yet : (a n : ℕ) → a < n → n ≤ a → ⊥
+not_yet a n less le = omega arith
 
 app_known : (boot : Booted) (history : List Event) (kernel : Kernel) (session : ℕ) (app : Application)
     → kernel_after boot history ≡ Some kernel → IsKeptFor boot kernel session app → own_app boot history session ≡ Some app
@@ -94,16 +105,6 @@ app_known boot history kernel session app e kept =
     given = All-get (IsNumberedSession kernel.tables) kernel.tables.sessions session kept.kept
         (numbered boot history kernel e).sessions kept.there
 
-    not_yet : (a n : ℕ) → a < n → n ≤ a → ⊥
-    not_yet a n less le = omega arith
-
-    named : (of : Application) (uuid : Option (List ℕ)) → app_of boot (uuid_of of) ≡ Some of → of ≡ app → IsNamed of uuid
-        → option_and_then (app_of boot) uuid ≡ Some app
-    named of uuid of_boot same (inl is) =
-        ap (λ (o : Option (List ℕ)). option_and_then (app_of boot) o) is ∙ of_boot ∙ ap (λ (a : Application). Some a) same
-    named of uuid of_boot same (inr shared) =
-        let no : true ≡ false = sym shared.1 ∙ ap is_single same ∙ kept.shares_none in absurd cc
-
     by : (notes : Notes) → noted boot history session ≡ notes → Stands boot session kernel notes
         → option_and_then (app_of boot) notes.uuid ≡ Some app
     by notes is (Before lower none) = absurd (not_yet session kernel.tables.next_session given.0.1 lower)
@@ -113,8 +114,8 @@ app_known boot history kernel session app e kept =
         let uuid : kept.instance.uuid ≡ uuid_of of =
         on.claimed kept.instance.uuid
         (inl (kept.instance, ap (λ (n : ℕ). get kernel.tables.instances n) (sym at) ∙ kept.has, refl)) in
-        named of notes.uuid of_boot
-        (some_app of app (sym of_boot ∙ ap (app_of boot) (sym uuid) ∙ kept.of_app)) its
+        named_alone boot of app notes.uuid of_boot
+        (some_app of app (sym of_boot ∙ ap (app_of boot) (sym uuid) ∙ kept.of_app)) kept.shares_none its
 
 -- what is noted of more events goes on from what was noted before them
 pub noted-append : (boot : Booted) (session : ℕ) (kernel last : Kernel) (notes : Notes) (events more : List Event)
@@ -132,7 +133,7 @@ noted-append boot session kernel last notes (happened ∷ events) more e =
     ∙ sym (ap (λ (n : Notes). noted_from boot session last n more)
     (goes_from boot session kernel next notes happened events comes)))
 
-none_noted : (boot : Booted) (app : Application) (notes : Notes) → notes ≡ no_notes
+pub none_noted : (boot : Booted) (app : Application) (notes : Notes) → notes ≡ no_notes
     → option_and_then (app_of boot) notes.uuid ≡ Some app → ⊥
 none_noted boot app notes none is =
     let no : None ≡ Some app = sym (ap (λ (n : Notes). option_and_then (app_of boot) n.uuid) none) ∙ is in cc

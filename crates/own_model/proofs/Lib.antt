@@ -38,5 +38,7 @@ pub mod TiedEvents
 pub mod RepliesTold
 pub mod WholeHistories
 pub mod KeptSessions
+pub mod PendingOpens
+pub mod CallsInLogs
 pub mod Shown
 pub mod ShownAlike

@@ -1,14 +1,19 @@
 -- What happens to sessions of small boots and what they are answered, worked out by hand.
-use Rattle.std.specs.Prelude.{◌≡◌, ℕ, false, List, [], ◌∷◌, ◌++◌, Option, Some, replicate, true}
+use Rattle.std.specs.Prelude.{◌≡◌, ℕ, Bool, false, List, [], ◌∷◌, ◌++◌, if◌then◌else◌, Option, Some, None, replicate, true}
 use Rattle.std.specs.Option.{option_map, option_and_then}
 use Rattle.event_journal.specs.declared.event.Event.{Event}
 use Rattle.job_model.specs.Point.{no_params}
+use Rattle.job_model.specs.declared.call_kind.CallKind.{CallKind}
+use Rattle.job_model.specs.declared.call_kind.CallKind.TheVariants as kind
 use Rattle.kernel_model.specs.Application.{Application, Booted}
+use Rattle.kernel_model.specs.History.{kernel_after}
 use Rattle.kernel_model.specs.Instances.{is_single}
+use Rattle.kernel_model.specs.Kernel.{Kernel, PendingCall}
 use Rattle.kernel_model.specs.RpcExamples.{two_waits}
 use Rattle.kernel_model.specs.AreaExamples.{area_call, area_call_of, invokes_in, named_call, named_call_of, with_page}
 use Rattle.kernel_model.specs.Worked.{Move, Comes, Leaves, boot, boot_native, add, panic, wait, wait_unmasked}
 use Rattle.kernel_model.specs.Worked.{create_fails, open_fails, open_panics, adds, argument, head, param, invokes}
+use Rattle.kernel_model.specs.SoundCalls.{is_over}
 use Rattle.kernel_model.specs.Worked.{invokes_by, cancels, closes, call, call_of, offer, opens, open_argument, resume, history_of}
 use Rattle.rpc_msgs.specs.Answer.{nothing_read}
 use Rattle.rpc_msgs.specs.declared.rpc.Rpc.TheVariants.{Suspend}
@@ -24,6 +29,7 @@ use Rattle.own_model.specs.declared.own_reply.OwnReply.{OwnReply}
 use Rattle.own_model.specs.declared.own_reply.OwnReply.TheVariants as reply
 use Rattle.own_model.specs.Own.{own_app, own_events, own_replies}
 use Rattle.own_model.specs.Solo.{solo_replies}
+use Rattle.own_model.specs.Tied.{call_at}
 
 -- what happens to a session by moves from the boot on, what it is answered, and what its own machine answers
 abbrev pub events_of : Booted → List Move → ℕ → Option (List OwnEvent)
@@ -36,6 +42,25 @@ abbrev pub solo_of : Booted → List Move → ℕ → Option (List OwnReply)
 solo_of on moves session =
     let answers = λ (history : List Event) (app : Application). solo_replies 1000 app on.key (own_events on history session) in
     option_and_then (λ history. option_and_then (answers history) (own_app on history session)) (history_of on moves)
+
+-- the kernel behind them
+abbrev pub kernel_of : Booted → List Move → Option Kernel
+kernel_of on moves = option_and_then (kernel_after on) (history_of on moves)
+
+-- the session whose open the slot holds then, where that hasn't ended
+abbrev pub opened_by : CallKind → PendingCall → Option ℕ
+opened_by kind.Open call = if is_over call.phase then None else Some call.session
+opened_by _ call = None
+
+abbrev pub opening_in : Booted → List Move → ℕ → Option ℕ
+opening_in on moves slot =
+    let session = λ (call : PendingCall). opened_by call.kind call in
+    option_and_then (λ (kernel : Kernel). option_and_then session (call_at kernel.slots slot)) (kernel_of on moves)
+
+-- whether the sessions of the session's application share an instance, where that application is known
+abbrev pub shares_of : Booted → List Move → ℕ → Option Bool
+shares_of on moves session =
+    option_and_then (λ history. option_map is_single (own_app on history session)) (history_of on moves)
 
 -- the open of a client that is nobody
 abbrev pub nobody : Login
@@ -154,8 +179,14 @@ pub record Examples : Type 0 where
   pub stepwise_events : events_of (boot 1 1 1 add) step_by_step 1 ≡ Some sum_events
   pub stepwise_replies : Agrees (boot 1 1 1 add) step_by_step 1 sum_replies
   -- its application's sessions share no instance, so that isolation is about it
-  pub at_once_alone : option_and_then (λ history. option_map is_single (own_app (boot 1 1 1 add) history 1))
-      (history_of (boot 1 1 1 add) at_once) ≡ Some false
+  pub at_once_alone : shares_of (boot 1 1 1 add) at_once 1 ≡ Some false
+  -- it is from the entry of the open on, which hasn't ended then; and that has behind its exit
+  pub opening : opening_in (boot 1 1 1 add) (Comes 0 (call_of 0) 9 open_argument ∷ []) 0 ≡ Some 1
+  pub opening_alone : shares_of (boot 1 1 1 add) (Comes 0 (call_of 0) 9 open_argument ∷ []) 1 ≡ Some false
+  pub opening_ended : opening_in (boot 1 1 1 add) opens 0 ≡ None
+  -- a call is in the log of its session as soon as it has come in
+  pub closing_events : events_of (boot 1 1 1 add) (opens ++ Comes 0 (call_of 0) 9 (closes 1) ∷ []) 1
+      ≡ Some (opened ∷ Out 0 ∷ Close false ∷ [])
   -- a session that waits for itself
   pub woken_events_are : events_of (boot 2 2 1 wait) woken 1 ≡ Some woken_events
   pub woken_replies_are : Agrees (boot 2 2 1 wait) woken 1 woken_replies

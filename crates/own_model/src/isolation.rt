@@ -1,6 +1,6 @@
 //! Isolation: what a session is answered depends on its own events alone.
-ghost use Rattle.own_model.specs.Isolation.{AnsweredAsAlone, KeptSessionsAreKnown, SameBeginningsSameReplies};
-ghost use Rattle.own_model.specs.Isolation.{SameEventsSameReplies};
+ghost use Rattle.own_model.specs.Isolation.{AnsweredAsAlone, CallsAreInLogs, KeptSessionsAreKnown, PendingOpensAreKnown};
+ghost use Rattle.own_model.specs.Isolation.{SameBeginningsSameReplies, SameEventsSameReplies};
 ghost use Rattle.own_model.specs.Shown.{ExitsShowReplies, SameEventsShowTheSame};
 
 /// After each legal history a session of an application whose sessions share no instance was answered as its machine
@@ -25,6 +25,17 @@ pub fn same_beginnings_get_same_replies()
 /// so that the law is about that session; and it stays known, whatever comes then.
 pub fn kept_sessions_are_known()
     ensures { KeptSessionsAreKnown }
+{}
+
+/// And so is that of each session whose open hasn't ended yet, by the application that the open names.
+pub fn pending_opens_are_known()
+    ensures { PendingOpensAreKnown }
+{}
+
+/// Each new call of such a session that gets a slot is the next event of the session's log, its open among them: so nothing that
+/// the session's client has asked of it is left out.
+pub fn calls_are_in_logs()
+    ensures { CallsAreInLogs }
 {}
 
 /// What the normal world is shown of a call that goes out with a reply, its registers a0 to a3 and what is written for it, is a

@@ -18,7 +18,10 @@
 //!   with one key and whatever else happened (`same_events_get_same_replies`); so were they as far as their first
 //!   events are the same (`same_beginnings_get_same_replies`).
 //! - The law is about each session that is kept and whose application's sessions share no instance: the history knows
-//!   that application, and whatever comes then leaves it so (`kept_sessions_are_known`).
+//!   that application, and whatever comes then leaves it so (`kept_sessions_are_known`). Likewise each session whose open
+//!   hasn't ended, by the application that the open names (`pending_opens_are_known`).
+//! - Each new call of such a session that gets a slot is the next event of the session's log, its open among them
+//!   (`calls_are_in_logs`).
 //! - What the normal world is shown of a call that goes out with a reply is its registers and what is written for it.
 //!   That is a function of the reply and of the call's places, but for a4 to a7, which are as the processor came in
 //!   with them (`exits_show_replies`). Its places are its slot, its area and buffer, the slot of the call that it
@@ -53,8 +56,9 @@ mod own_event;
 mod own_reply;
 
 pub use isolation::{
-    exits_show_replies, kept_sessions_are_known, same_beginnings_get_same_replies,
-    same_events_get_same_replies, same_events_show_the_same, sessions_are_answered_as_alone,
+    calls_are_in_logs, exits_show_replies, kept_sessions_are_known, pending_opens_are_known,
+    same_beginnings_get_same_replies, same_events_get_same_replies, same_events_show_the_same,
+    sessions_are_answered_as_alone,
 };
 pub use laws::{
     calls_of_others_keep_sessions, exits_of_others_keep_sessions, fixed_answers_keep_sessions,
