@@ -12,6 +12,7 @@ use Rattle.kernel_model.specs.Kernel.{Instance, Kernel, first_kernel}
 use Rattle.kernel_model.proofs.Parts.{some_of}
 use Rattle.kernel_model.proofs.Past.{after_events-append}
 use Rattle.kernel_model.proofs.SoundMemory.{own_uuid}
+use Rattle.session_table.specs.declared.session.Session.{Session}
 use Rattle.own_model.proofs.Lookups.{app_named}
 use Rattle.own_model.proofs.WholeHistories.{IsAt, IsOn, bound_now, from_first, on_from}
 use Rattle.own_model.specs.Isolation.{steps_in}
@@ -54,10 +55,10 @@ tied_on boot about past kernel notes g happened events shares key ordered tied a
     }
 
 -- kernel and machine at the end of a history
-record IsTiedAtEnd (about : About) (last : Kernel) (notes : Notes) : Type 0 where
-  then : Group
-  ordered : IsInOrder then
-  tied : AreTied about last.slots last.tables notes then
+pub record IsTiedAtEnd (about : About) (last : Kernel) (notes : Notes) : Type 0 where
+  pub then : Group
+  pub ordered : IsInOrder then
+  pub tied : AreTied about last.slots last.tables notes then
 
 -- they are tied as they were at its beginning
 tied_to_end : (boot : Booted) (about : About) (past : List Event) (kernel last : Kernel) (notes : Notes) (g : Group)
@@ -84,30 +85,42 @@ tied_to_end boot about past kernel last notes g (happened ∷ events) shares key
 
 -- ---- kept sessions have their numbers
 
+-- kernel and machine are tied after each history
+abbrev pub about_after : Booted → List Event → Application → About
+about_after boot history app = record { app = app; most = steps_in history; key = boot.key }
+
+pub tied_after : (boot : Booted) (history : List Event) (kernel : Kernel) (app : Application) → SharesOne boot app
+    → kernel_after boot history ≡ Some kernel
+    → IsTiedAtEnd (about_after boot history app) kernel (noted boot history app)
+tied_after boot history kernel app shares there =
+    tied_to_end boot (about_after boot history app) [] (first_kernel boot) kernel no_notes (nobody_there boot.key) history
+    shares refl (stays_in_order.first boot.key) (boots_tied boot (about_after boot history app))
+    (from_first boot history kernel there) there
+
+-- a session on an instance of the group's is no other's
+pub number_there : (about : About) (kernel : Kernel) (notes : Notes) (end : IsTiedAtEnd about kernel notes) (session : ℕ)
+    (kept : Session) → get kernel.tables.sessions session ≡ Some kept → IsSome (get end.tied.instances kept.instance)
+    → IsSome (get notes.sessions session)
+number_there about kernel notes end session kept there on = by (get notes.sessions session) refl
+  where
+    by : (found : Option ℕ) → get notes.sessions session ≡ found → IsSome (get notes.sessions session)
+    by (Some number) is = subst (IsSome {T = ℕ}) (sym is) refl
+    by None none =
+        let no : IsSome {T = ℕ} None = subst (IsSome {T = ℕ}) (end.tied.tied.sessions.others session kept there none) on in
+        absurd cc
+
 has_number : (boot : Booted) (history : List Event) (kernel : Kernel) (session : ℕ) (app : Application)
     → kernel_after boot history ≡ Some kernel → IsKeptTogether boot kernel session app
     → IsSome (get (noted boot history app).sessions session)
-has_number boot history kernel session app there kept = by (get (noted boot history app).sessions session) refl
+has_number boot history kernel session app there kept =
+    let of = All-get (λ (one : ℕ × Instance). IsOfGroup app end.tied.instances one.0 one.1.uuid) kernel.tables.instances
+    kept.kept.instance kept.instance end.tied.tied.instances.of_app kept.has in
+    number_there (about_after boot history app) kernel (noted boot history app) end session kept.kept kept.there
+    (of.0 (sym (app_named boot kept.instance.uuid app kept.of_app)))
   where
-    about : About
-    about = record { app = app; most = steps_in history; key = boot.key }
-
-    end : IsTiedAtEnd about kernel (noted boot history app)
-    end = tied_to_end boot about [] (first_kernel boot) kernel no_notes (nobody_there boot.key) history
-        (record { of_boot = own_uuid boot kept.instance.uuid app kept.of_app; shares = kept.shares }) refl
-        (stays_in_order.first boot.key) (boots_tied boot about) (from_first boot history kernel there) there
-
-    -- its instance is the group's, so the session is no other's
-    by : (found : Option ℕ) → get (noted boot history app).sessions session ≡ found
-        → IsSome (get (noted boot history app).sessions session)
-    by (Some number) is = subst (IsSome {T = ℕ}) (sym is) refl
-    by None none =
-        let gone = end.tied.tied.sessions.others session kept.kept kept.there none in
-        let of = All-get (λ (one : ℕ × Instance). IsOfGroup app end.tied.instances one.0 one.1.uuid) kernel.tables.instances
-        kept.kept.instance kept.instance end.tied.tied.instances.of_app kept.has in
-        let its = of.0 (sym (app_named boot kept.instance.uuid app kept.of_app)) in
-        let no : IsSome {T = ℕ} None = subst (IsSome {T = ℕ}) gone its in
-        absurd cc
+    end : IsTiedAtEnd (about_after boot history app) kernel (noted boot history app)
+    end = tied_after boot history kernel app
+        (record { of_boot = own_uuid boot kept.instance.uuid app kept.of_app; shares = kept.shares }) there
 
 -- ---- and keep them
 
@@ -127,7 +140,7 @@ number_on boot about past kernel notes g (happened ∷ events) session number sh
     (number_stays boot about.app kernel after.on.next notes session number tied.tied.session_names has happened after.on.comes)
 
 -- what is noted of more events goes on from what was noted before them
-noted-append : (boot : Booted) (app : Application) (kernel last : Kernel) (notes : Notes) (events more : List Event)
+pub noted-append : (boot : Booted) (app : Application) (kernel last : Kernel) (notes : Notes) (events more : List Event)
     → after_events boot kernel events ≡ Some last
     → noted_from boot app kernel notes (events ++ more)
     ≡ noted_from boot app last (noted_from boot app kernel notes events) more

@@ -39,6 +39,8 @@ pub mod RepliesTold
 pub mod WholeHistories
 pub mod NumbersKept
 pub mod KeptSessions
+pub mod PendingOpens
+pub mod CallsInTheLog
 pub mod EmbeddedParts
 pub mod EmbeddedCalls
 pub mod EmbeddedReturns
@@ -51,3 +53,5 @@ pub mod AlongHistories
 pub mod ComingCalls
 pub mod ComingEvents
 pub mod OneLaw
+pub mod EachKept
+pub mod CallsInRealms

@@ -5,7 +5,6 @@ use Rattle.std.specs.Prelude.{All, ◌==◌, ◌||◌, IsSome, if◌then◌else�
 use Rattle.std.specs.Option.{option_map, option_map_or, option_and_then}
 use Rattle.std.proofs.lemmas.Bool.Decides.{Decides-eqb}
 use Rattle.std.proofs.lemmas.List.Elements.{All-head, All-tail}
-use Rattle.std.proofs.lemmas.Option.{option_and_then_some}
 use Rattle.base.specs.NumberMap.{NumberMap, get, insert}
 use Rattle.base.proofs.MapLemmas.{All-get}
 use Rattle.event_journal.specs.declared.event.Event.TheVariants.{Entry}
@@ -20,7 +19,7 @@ use Rattle.kernel_model.specs.Application.{Application, Booted, uuid_of}
 use Rattle.kernel_model.specs.Argument.{client_in, thread_in}
 use Rattle.kernel_model.specs.Begin.{has_pages_for}
 use Rattle.kernel_model.specs.Given.{Given, Nothing, given_to}
-use Rattle.kernel_model.specs.Kernel.{Active, Asks, CallPhase, Ends, Free, InSlot, Inside, Instance, Kernel, PendingCall}
+use Rattle.kernel_model.specs.Kernel.{Active, Asks, CallPhase, Ends, InSlot, Inside, Instance, Kernel, PendingCall}
 use Rattle.kernel_model.specs.Kernel.{Processor, Progress, Runs, Suspended, ThreadSlot, Visit, Waits}
 use Rattle.kernel_model.specs.Leaving.{FreesBuffer, Finishes, Interrupted, Leaving, Requests, WantsBuffer, leaving_in}
 use Rattle.kernel_model.specs.Leaving.{leaving_of}
@@ -31,6 +30,7 @@ use Rattle.kernel_model.specs.SoundCalls.{is_told}
 use Rattle.kernel_model.specs.SoundWaiters.{Awaited, AreWaiters, IsWaiter, awaited}
 use Rattle.kernel_model.proofs.EntryLaws.{resumes_call}
 use Rattle.kernel_model.proofs.Parts.{option_map_some, reading-mapped, set_found}
+use Rattle.own_model.proofs.BelowNumbers.{unmarked_there}
 use Rattle.own_model.proofs.FixedAnswers.{entered}
 use Rattle.own_model.proofs.OtherResumes.{visitor_there}
 use Rattle.own_model.specs.Own.{input_of}
@@ -58,7 +58,7 @@ use Rattle.own_model.proofs.OwnResumes.{given_nothing, asked_not, runs_seen, giv
 -- ---- what is known of a call that waits
 
 -- what the one waits for, the other does
-same_awaited : (a b : Awaited) → Some a ≡ Some b → a ≡ b
+pub same_awaited : (a b : Awaited) → Some a ≡ Some b → a ≡ b
 same_awaited a b e = cc
 
 same_call : (a b : PendingCall) → Some a ≡ Some b → a ≡ b
@@ -68,13 +68,13 @@ same_session : (a b : Session) → Some a ≡ Some b → a ≡ b
 same_session a b e = cc
 
 -- the waiter of a slot
-record HasWaiter (app : Application) (instances : NumberMap ℕ) (calls : Calls) (slot : ℕ) : Type 0 where
-  waiter : Waiter
-  here : waiter.slot ≡ slot
-  waits_so : IsWaiter calls waiter
-  of_group : IsOfGroup app instances waiter.instance waiter.uuid
+pub record HasWaiter (app : Application) (instances : NumberMap ℕ) (calls : Calls) (slot : ℕ) : Type 0 where
+  pub waiter : Waiter
+  pub here : waiter.slot ≡ slot
+  pub waits_so : IsWaiter calls waiter
+  pub of_group : IsOfGroup app instances waiter.instance waiter.uuid
 
-waiter_there : (app : Application) (instances : NumberMap ℕ) (calls : Calls) (slot : ℕ) (waiters : List Waiter)
+pub waiter_there : (app : Application) (instances : NumberMap ℕ) (calls : Calls) (slot : ℕ) (waiters : List Waiter)
     → waits waiters slot ≡ true → All (IsWaiter calls) waiters
     → All (λ (waiter : Waiter). IsOfGroup app instances waiter.instance waiter.uuid) waiters
     → HasWaiter app instances calls slot
@@ -134,21 +134,6 @@ nothing_kept : (p : Place) (at : ℕ) (found : Option Instance)
     → ((instance : Instance) → found ≡ Some instance → ⊥) → FoundAlike p.notes.numbering.in_slots found None
 nothing_kept p at None none = tt
 nothing_kept p at (Some instance) none = absurd (none instance refl)
-
--- a call in a slot, without its mark
-unmarked_in : (held : ThreadSlot) (call : PendingCall) → call_in held ≡ Some call
-    → sound.call_in held ≡ Some (sound.unmarked call)
-unmarked_in Free call e = absurd cc
-unmarked_in (Active cpu other) call e =
-    let same : other ≡ call = same_call other call e in ap (λ (c : PendingCall). Some (sound.unmarked c)) same
-unmarked_in (Suspended client other) call e =
-    let same : other ≡ call = same_call other call e in ap (λ (c : PendingCall). Some (sound.unmarked c)) same
-
-unmarked_there : (slots : List ThreadSlot) (slot : ℕ) (call : PendingCall) → call_at slots slot ≡ Some call
-    → sound.call_at slots slot ≡ Some (sound.unmarked call)
-unmarked_there slots slot call found =
-    option_and_then_some call_in (slice_get slots slot) call found
-    (λ held is in_it. ap (λ (o : Option ThreadSlot). option_and_then sound.call_in o) is ∙ unmarked_in held call in_it)
 
 pub returns_so : (boot : Booted) (p : Place) (call : PendingCall) (own : GroupCall) → SharesOne boot p.about.app
     → p.about.key ≡ boot.key → AreFitting p.about.app p.kernel → call_at p.kernel.slots p.slot ≡ Some call

@@ -1,24 +1,27 @@
 -- What happens to groups of small boots and what they are answered, worked out by hand, and what their machines answer.
-use Rattle.std.specs.Prelude.{◌≡◌, ℕ, false, true, List, [], ◌∷◌, ◌++◌, Option, Some, None, drop, map, replicate}
+use Rattle.std.specs.Prelude.{◌≡◌, ℕ, Bool, false, true, List, [], ◌∷◌, ◌++◌, Option, Some, None, drop, is_some, map, replicate}
 use Rattle.std.specs.Option.{option_map, option_and_then}
+use Rattle.base.specs.NumberMap.{get}
 use Rattle.event_journal.specs.declared.event.Event.{Event}
 use Rattle.job_model.specs.Point.{no_params}
 use Rattle.kernel_model.specs.Application.{Application, Booted, booted}
 use Rattle.kernel_model.specs.AreaExamples.{area_call}
 use Rattle.kernel_model.specs.Instances.{app_of}
+use Rattle.kernel_model.specs.Kernel.{Kernel}
 use Rattle.kernel_model.specs.Worked.{Move, Comes, Leaves, add, adds, app_with, argument, boot, boot_with, call, call_of, cancels}
 use Rattle.kernel_model.specs.Worked.{closes, create_fails, flagged, head, history_of, invokes, invokes_by, mark, open_argument}
 use Rattle.kernel_model.specs.Worked.{open_panics, opens, panic, param, resume, resume_of, uuid, wait, wait_unmasked}
 use Rattle.ns_ram.specs.declared.read.Read.{Read}
 use Rattle.rpc_msgs.specs.Answer.{nothing_read}
-use Rattle.own_model.specs.Examples.{area_replies, asks_in_area, nobody, numbers, woken, woken_replies}
+use Rattle.own_model.specs.Examples.{area_replies, asks_in_area, kernel_of, nobody, numbers, opening_in, woken, woken_replies}
 use Rattle.own_model.specs.declared.own_event.BackInput.TheVariants.{NoBuffer, Reply}
 use Rattle.own_model.specs.declared.own_event.OwnInput.TheVariants.{Copied, Unread}
 use Rattle.own_model.specs.declared.own_reply.OwnReply.TheVariants as reply
+use Rattle.session_table.specs.declared.session.Session.{Session}
 use Rattle.ta_isa.specs.declared.boot.App.{App}
 use Rattle.ta_isa.specs.declared.image.Image.{Image}
 use Rattle.group_model.specs.Group.{group_machine_replies}
-use Rattle.group_model.specs.Read.{group_events, group_replies}
+use Rattle.group_model.specs.Read.{group_events, group_replies, noted}
 use Rattle.group_model.specs.declared.group_event.GroupEvent.{GroupEvent}
 use Rattle.group_model.specs.declared.group_event.GroupEvent.TheVariants.{Open, Invoke, Close, Cancel, Seen, Room, Back}
 use Rattle.group_model.specs.declared.group_event.GroupEvent.TheVariants.{Out}
@@ -47,6 +50,19 @@ machine_of on moves =
 -- the group is answered so, and its machine answers so too
 abbrev pub Agrees : Booted → List Move → List GroupReply → Type 0
 Agrees on moves replies = (replies_of on moves ≡ Some replies) × (machine_of on moves ≡ Some replies)
+
+-- the group's number of the kernel's session
+abbrev pub number_of : Booted → List Move → ℕ → Option ℕ
+number_of on moves session =
+    let number = λ (history : List Event). option_and_then (λ app. get (noted on history app).sessions session) (app_of on uuid) in
+    option_and_then number (history_of on moves)
+
+-- whether the instance of the session is kept behind the moves, where the session is
+abbrev pub has_instance : Booted → List Move → ℕ → Option Bool
+has_instance on moves session =
+    let kept = λ (kernel : Kernel). option_map (λ (found : Session). is_some (get kernel.tables.instances found.instance))
+    (get kernel.tables.sessions session) in
+    option_and_then kept (kernel_of on moves)
 
 -- ---- what is told
 
@@ -178,6 +194,13 @@ pub record Examples : Type 0 where
   pub gone_events_are : events_of (boot 2 2 1 (shared add)) (gone_awaited ++ back_to 1 ++ back_to 0) ≡ Some gone_events
   pub gone_replies : Agrees (boot 2 2 1 (shared add)) (gone_awaited ++ back_to 1 ++ back_to 0)
       (opened 0 ∷ alloc ∷ alloc ∷ opened 1 ∷ ended 0 3 ∷ [])
+  -- while it waits, without an instance, its session is one of the group's already
+  pub gone_opening : opening_in (boot 2 2 1 (shared add)) gone_awaited 1 ≡ Some 2
+  pub gone_instance : has_instance (boot 2 2 1 (shared add)) gone_awaited 2 ≡ Some false
+  pub gone_number : number_of (boot 2 2 1 (shared add)) gone_awaited 2 ≡ Some 1
+  -- and a call is in the log as soon as it has come in
+  pub closing_events : events_of (boot 1 1 1 (shared add)) (opens ++ Comes 0 (call_of 0) 9 (closes 1) ∷ [])
+      ≡ Some (copied ∷ Out 0 ∷ Close 0 false ∷ [])
   -- or finds that another application took them
   pub no_room : Agrees (beside 1 (shared add)) (gone_awaited ++ call 2 9 opens_other ++ back_to 1 ++ back_to 0)
       (opened 0 ∷ alloc ∷ alloc ∷ ended 0xffff000c 3 ∷ ended 0 3 ∷ [])

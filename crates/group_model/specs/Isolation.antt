@@ -1,16 +1,16 @@
 -- Isolation of groups: whatever else happens, the sessions of a single-instance application are answered as the machine of
 -- their group, which has the group's events alone. This project's own.
-use Rattle.std.specs.Prelude.{◌≡◌, ℕ, true, List, ◌++◌, Some, IsSome, take}
+use Rattle.std.specs.Prelude.{◌≡◌, ℕ, true, List, [], ◌∷◌, ◌++◌, Some, IsSome, take}
 use Rattle.base.specs.NumberMap.{get}
 use Rattle.event_journal.specs.declared.event.Event.{Event}
 use Rattle.session_table.specs.declared.session.Session.{Session}
 use Rattle.kernel_model.specs.Application.{Application, Booted, uuid_of}
 use Rattle.kernel_model.specs.History.{IsLegal, kernel_after}
 use Rattle.kernel_model.specs.Instances.{app_of, is_single}
-use Rattle.kernel_model.specs.Kernel.{Instance, Kernel}
-use Rattle.own_model.specs.Isolation.{steps_in}
+use Rattle.kernel_model.specs.Kernel.{Instance, Kernel, PendingCall}
+use Rattle.own_model.specs.Isolation.{BringsCall, GrowsBy, HasPendingOpen, steps_in}
 use Rattle.group_model.specs.Group.{group_machine_replies}
-use Rattle.group_model.specs.Read.{Logged, group_events, group_replies, noted}
+use Rattle.group_model.specs.Read.{Logged, event_of, group_events, group_replies, noted}
 use Rattle.group_model.specs.Laws.{events_in, replies_in}
 
 -- a legal history of a boot that has this application, whose sessions share one instance
@@ -43,6 +43,21 @@ pub record KeptSessionsAreOfTheGroup : Type 0 where
   pub stays : (boot : Booted) (history more : List Event) (session number : ℕ) (app : Application) →
       IsGroupOf boot (history ++ more) app → get (noted boot history app).sessions session ≡ Some number →
       get (noted boot (history ++ more) app).sessions session ≡ Some number
+
+-- so is each session whose open hasn't ended, of the application that the open names: also while it waits for an instance that is
+-- gone by now
+abbrev pub PendingOpensAreOfTheGroup : Type 0
+PendingOpensAreOfTheGroup = (boot : Booted) (history : List Event) (kernel : Kernel) (session : ℕ) (app : Application) →
+    kernel_after boot history ≡ Some kernel → HasPendingOpen boot kernel session app → is_single app ≡ true →
+    IsSome (get (noted boot history app).sessions session)
+
+-- each call of one of the group's sessions is the last event in the group's log as it comes in, the open among them
+abbrev pub CallsAreInTheLog : Type 0
+CallsAreInTheLog = (boot : Booted) (history : List Event) (happened : Event) (call : PendingCall) (app : Application) →
+    (brings : BringsCall boot history happened call) → IsGroupOf boot (history ++ happened ∷ []) app →
+    IsSome (get (noted boot (history ++ happened ∷ []) app).sessions call.session) →
+    GrowsBy (noted boot history app).log (noted boot (history ++ happened ∷ []) app).log
+    (event_of app brings.next.tables (noted boot history app) call call.kind)
 
 -- so in two worlds: after any two legal histories, of any two boots that have the same key, the group of one application
 -- to which the same has happened was answered the same

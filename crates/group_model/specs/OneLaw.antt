@@ -1,20 +1,22 @@
 -- One law: whatever else happens in a legal history, those who share an instance are answered as the machine of a group which
 -- has what happened to them alone. They are the sessions of an application that share one, or one session of an application
 -- whose sessions share none. This project's own.
-use Rattle.std.specs.Prelude.{◌≡◌, ◌++◌, ℕ, List, Some, IsSome, filter_map}
+use Rattle.std.specs.Prelude.{◌≡◌, ◌++◌, ℕ, List, [], ◌∷◌, Option, Some, IsSome, filter_map}
+use Rattle.std.specs.Option.{option_and_then}
 use Rattle.base.specs.NumberMap.{get}
 use Rattle.event_journal.specs.declared.event.Event.{Event}
 use Rattle.kernel_model.specs.Application.{Application, Booted}
 use Rattle.kernel_model.specs.History.{IsLegal, kernel_after}
 use Rattle.kernel_model.specs.Instances.{app_of}
-use Rattle.kernel_model.specs.Kernel.{Instance, Kernel}
+use Rattle.kernel_model.specs.Kernel.{Instance, Kernel, PendingCall, Tables}
 use Rattle.session_table.specs.declared.session.Session.{Session}
-use Rattle.own_model.specs.Isolation.{IsSessionOf, steps_in}
+use Rattle.own_model.specs.Isolation.{BringsCall, HasPendingOpen, IsSessionOf, steps_in}
 use Rattle.own_model.specs.Own.{own_events, own_replies}
+use Rattle.own_model.specs.Own as own
 use Rattle.own_model.specs.Solo.{unopened}
 use Rattle.group_model.specs.Group.{group_machine_replies}
 use Rattle.group_model.specs.Isolation.{IsGroupOf}
-use Rattle.group_model.specs.Read.{group_events, group_replies, noted}
+use Rattle.group_model.specs.Read.{event_of, group_events, group_replies, noted}
 use Rattle.group_model.specs.declared.group_event.GroupEvent.{GroupEvent}
 use Rattle.group_model.specs.declared.group_reply.GroupReply.{GroupReply}
 use Rattle.group_model.specs.Embedding.{CanAllCome, event_as, replies_as}
@@ -94,3 +96,29 @@ pub record KeptSessionsHaveRealms : Type 0 where
   pub stays : (boot : Booted) (history more : List Event) (session : ℕ) (realm : Realm) (app : Application) →
       IsLegal boot (history ++ more) → IsRealmOf boot history realm app → IsIn boot history session realm app →
       IsRealmOf boot (history ++ more) realm app × IsIn boot (history ++ more) session realm app
+
+-- and so is each that the kernel keeps at all, whatever became of its instance; one whose open hasn't ended is in a realm of the
+-- application that the open names
+pub record EachKeptSessionHasARealm : Type 0 where
+  pub each : (boot : Booted) (history : List Event) (kernel : Kernel) (session : ℕ) (kept : Session) →
+      IsLegal boot history → kernel_after boot history ≡ Some kernel → get kernel.tables.sessions session ≡ Some kept →
+      (app : Application) × HasRealm boot history session app
+  pub opening : (boot : Booted) (history : List Event) (kernel : Kernel) (session : ℕ) (app : Application) →
+      IsLegal boot history → kernel_after boot history ≡ Some kernel → HasPendingOpen boot kernel session app →
+      HasRealm boot history session app
+
+-- ---- their calls
+
+-- the event of the realm that a new call is, if it is one, with the tables behind its entry
+abbrev pub realm_event : Booted → List Event → Tables → Realm → Application → PendingCall → Option GroupEvent
+realm_event boot history tables (OneSession session) app call = option_and_then event_as (own.event_of session call)
+realm_event boot history tables AllSessions app call = event_of app tables (noted boot history app) call call.kind
+
+-- each call in one of the sessions is the last of the realm's events as it comes in, the open among them
+abbrev pub CallsAreInRealms : Type 0
+CallsAreInRealms =
+    (boot : Booted) (history : List Event) (happened : Event) (call : PendingCall) (realm : Realm) (app : Application) →
+    (brings : BringsCall boot history happened call) → IsRealmOf boot (history ++ happened ∷ []) realm app →
+    IsIn boot (history ++ happened ∷ []) call.session realm app →
+    (came : GroupEvent) × (realm_event boot history brings.next.tables realm app call ≡ Some came)
+    × (realm_events boot (history ++ happened ∷ []) realm app ≡ realm_events boot history realm app ++ came ∷ [])

@@ -1,6 +1,7 @@
 //! Isolation of groups: what the sessions of a single-instance application are answered depends on what happens to them
 //! alone.
-ghost use Rattle.group_model.specs.Isolation.{AnsweredAsAGroup, KeptSessionsAreOfTheGroup, SameGroupBeginningsSameReplies, SameGroupEventsSameReplies};
+ghost use Rattle.group_model.specs.Isolation.{AnsweredAsAGroup, CallsAreInTheLog, KeptSessionsAreOfTheGroup, PendingOpensAreOfTheGroup};
+ghost use Rattle.group_model.specs.Isolation.{SameGroupBeginningsSameReplies, SameGroupEventsSameReplies};
 
 /// After each legal history the sessions of a single-instance application were answered as the machine of their group
 /// answers to the group's events.
@@ -12,6 +13,17 @@ pub fn groups_are_answered_as_alone()
 /// that number, whatever comes then.
 pub fn kept_sessions_are_of_the_group()
     ensures { KeptSessionsAreOfTheGroup }
+{}
+
+/// So is each session whose open hasn't ended, also while it waits for an instance that is gone by now.
+pub fn pending_opens_are_of_the_group()
+    ensures { PendingOpensAreOfTheGroup }
+{}
+
+/// Each new call in one of the group's sessions that gets a slot is the next event of the group's log, the sessions' opens among
+/// them.
+pub fn calls_are_in_the_log()
+    ensures { CallsAreInTheLog }
 {}
 
 /// So two groups of one application to which the same has happened were answered the same, whatever else happened, in

@@ -25,7 +25,9 @@
 //!   has happened were answered the same (`same_group_events_get_same_replies`), and so were they as far as their first
 //!   events are the same (`same_group_beginnings_get_same_replies`).
 //! - Each session that is kept on an instance of the application has its number in the group, and keeps it, whatever
-//!   comes then (`kept_sessions_are_of_the_group`).
+//!   comes then (`kept_sessions_are_of_the_group`). So has each whose open hasn't ended, also while it waits for an
+//!   instance that is gone by now (`pending_opens_are_of_the_group`).
+//! - Each new call of such a session that gets a slot is the next event of the group's log (`calls_are_in_the_log`).
 //! - The machine stays in order (`machines_stay_in_order`), and answers the same where it is given more steps to a stop
 //!   (`more_steps_agree`).
 //!
@@ -58,8 +60,9 @@
 //! - A session whose application's sessions share no instance, and the sessions that share one, were answered as the
 //!   machine of a group answers to what happened to them (`realms_are_answered_as_alone`). Under one key those to whom
 //!   the same has happened were answered the same (`same_realm_events_get_same_replies`).
-//! - After a legal history each session that the kernel keeps is one of these, and stays so
-//!   (`kept_sessions_have_realms`).
+//! - After a legal history each session that the kernel keeps is one of these, whatever became of its instance
+//!   (`each_kept_session_has_a_realm`), and stays so (`kept_sessions_have_realms`). Each of its calls that gets a slot
+//!   is the next of what happens to them (`calls_are_in_realms`).
 //! - It follows from the laws of sessions and of groups, whose ties to the kernel stay two: a group's names its
 //!   instances by their UUID, which the instances of several such sessions have, too.
 //!
@@ -83,8 +86,9 @@ pub use exits::{interrupts_keep_groups, own_exits_keep_groups};
 pub use group_event::GroupEvent;
 pub use group_reply::GroupReply;
 pub use isolation::{
-    groups_are_answered_as_alone, kept_sessions_are_of_the_group,
-    same_group_beginnings_get_same_replies, same_group_events_get_same_replies,
+    calls_are_in_the_log, groups_are_answered_as_alone, kept_sessions_are_of_the_group,
+    pending_opens_are_of_the_group, same_group_beginnings_get_same_replies,
+    same_group_events_get_same_replies,
 };
 pub use laws::{
     boots_are_tied, calls_of_others_keep_groups, exits_of_others_keep_groups,
@@ -93,7 +97,7 @@ pub use laws::{
 };
 pub use machine::{machines_stay_in_order, more_steps_agree};
 pub use one_law::{
-    kept_sessions_have_realms, own_events_can_come, realms_are_answered_as_alone,
-    same_realm_events_get_same_replies,
+    calls_are_in_realms, each_kept_session_has_a_realm, kept_sessions_have_realms,
+    own_events_can_come, realms_are_answered_as_alone, same_realm_events_get_same_replies,
 };
 pub use resumes::own_resumes_keep_groups;
