@@ -1,4 +1,5 @@
 pub mod Returns
+pub mod Realms
 pub mod LastAnswers
 pub mod Adds
 pub mod Entries

@@ -3,6 +3,7 @@ pub mod Play
 pub mod Text
 pub mod Order
 pub mod Laws
+pub mod Realms
 pub mod Coming
 pub mod Ram
 pub mod Examples

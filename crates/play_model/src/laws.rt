@@ -3,6 +3,7 @@ ghost use Rattle.play_model.specs.Coming.{ItemsCanCome, TracesHavePlays};
 ghost use Rattle.play_model.specs.Examples.{Examples};
 ghost use Rattle.play_model.specs.Laws.{EntriesAreRead, ExitsCome, FixedAnswersPass, PlaysGoOn, TracesArePlayed};
 ghost use Rattle.play_model.specs.Ram.{RamIsKept};
+ghost use Rattle.play_model.specs.Realms.{HistoriesHaveRealms};
 ghost use Rattle.play_model.specs.TrueToKernel.{PlaysAreTrue};
 
 /// The history of each play is legal and holds the items of each processor in their order. In it a return from RPC
@@ -18,6 +19,13 @@ pub fn traces_are_played()
 /// nothing but the history.
 pub fn plays_are_true_to_the_kernel()
     ensures { PlaysAreTrue }
+{}
+
+/// In each legal history, and so in that of each play, those who share an instance, one session or all sessions of an application,
+/// were answered as the machine of a group which has what happened to them alone. Each session that was ever kept is one of such, also
+/// one whose open waited for an instance that was gone.
+pub fn histories_have_realms()
+    ensures { HistoriesHaveRealms }
 {}
 
 /// An entry that can follow on the kernel, with reads that each have the bytes of its processor's RAM, is the one that

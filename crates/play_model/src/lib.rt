@@ -5,7 +5,7 @@
 //! - `Play`: what has been played so far, and one function for each kind of item
 //! - `Text`: the bytes that a trace prints
 //! - `Order`: which histories hold the items in their order
-//! - `Laws`, `Ram`: what holds of each play
+//! - `Laws`, `Realms`, `Ram`: what holds of each play
 //!
 //! Nothing here touches RAM, a port or a thread.
 //!
@@ -25,6 +25,11 @@
 //! - the sessions of each application of the boot whose sessions share an instance were answered as their group's
 //!   machine answers to the group's events; each such session that the kernel keeps at any place of the history has its
 //!   number in its group from there to the end of the history.
+//!
+//! Of each legal history, and so of each play's, the last two are one law besides (`histories_have_realms`): a realm, one
+//! session or all sessions of an application, was answered as the machine of a group which has what happened to the realm
+//! alone; each session that the kernel keeps at any place of the history is in a realm from there on, also while its open
+//! waits for an instance that is gone.
 //!
 //! In one record (`IsTrueToKernel`, by `plays_are_true_to_the_kernel`) all of this holds of the play over RAM of zeros
 //! with the trace's fills, and besides:
@@ -52,6 +57,7 @@
 mod laws;
 
 pub use laws::{
-    entries_are_read, exits_come, fixed_answers_pass, items_can_come, plays_are_true_to_the_kernel,
-    plays_go_on, ram_is_kept, traces_are_played, traces_have_plays, worked_examples,
+    entries_are_read, exits_come, fixed_answers_pass, histories_have_realms, items_can_come,
+    plays_are_true_to_the_kernel, plays_go_on, ram_is_kept, traces_are_played, traces_have_plays,
+    worked_examples,
 };
