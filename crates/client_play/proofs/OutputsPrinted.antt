@@ -10,7 +10,7 @@ use Rattle.own_model.specs.Parameters.{bytes_told, output_of}
 use Rattle.ta_params.specs.declared.copied_params.GpParam.{GpParam}
 use Rattle.ta_params.specs.declared.copied_params.GpParam.TheVariants.{Empty, Memref, Value}
 use Rattle.ta_params.specs.declared.copied_params.Way.TheVariants.{In, Inout, Out}
-use Rattle.client_play.specs.Outputs.{HasWordSize, OutputsArePrinted, TellsOutput, in_word, output_in_words}
+use Rattle.client_play.specs.Outputs.{EachOutputIsPrinted, HasWordSize, OutputsArePrinted, in_word, output_in_words}
 use Rattle.client_play.specs.Printed.{memory_text, param_text, value_text}
 
 -- ---- a value
@@ -78,7 +78,7 @@ in_words_printed (Memref In bytes size) has = refl
 in_words_printed (Memref Out bytes size) has = ap (memory_text bytes) (small size has)
 in_words_printed (Memref Inout bytes size) has = ap (memory_text bytes) (small size has)
 
-one_printed : (printed output : GpParam) → TellsOutput printed output → HasWordSize output → param_text printed ≡ param_text output
+pub one_printed : EachOutputIsPrinted
 one_printed printed output tells has = its_output printed ∙ ap param_text (tells has) ∙ in_words_printed output has
 
 pub outputs_are_printed : OutputsArePrinted

@@ -104,4 +104,5 @@ pub record Examples : Type 0 where
   pub told_memory : output_of (Memref Inout (1 ∷ 2 ∷ 3 ∷ []) 2) ≡ Memref Inout (1 ∷ 2 ∷ []) 2
   pub told_larger : output_of (Memref Out (1 ∷ 2 ∷ 3 ∷ []) 4) ≡ Memref Out [] 4
   pub value_in_words : output_in_words (Value Out 0x10000000c 0xff) ≡ Value Out 12 0xff
+  -- a size of 2^32 + 4 would be told as 4
   pub memory_in_words : output_in_words (Memref Out [] 0x100000004) ≡ Memref Out [] 4

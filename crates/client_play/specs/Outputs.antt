@@ -8,7 +8,7 @@ use Rattle.ta_params.specs.declared.copied_params.CopiedParams.{CopiedParams}
 use Rattle.ta_params.specs.declared.copied_params.GpParam.{GpParam}
 use Rattle.ta_params.specs.declared.copied_params.GpParam.TheVariants.{Empty, Memref, Value}
 use Rattle.teec.specs.Operation.{params_of}
-use Rattle.client_play.specs.Printed.{outputs_text}
+use Rattle.client_play.specs.Printed.{outputs_text, param_text}
 
 -- a number in 32 bits, as RAM tells it
 abbrev pub in_word : ℕ → ℕ
@@ -47,3 +47,8 @@ HaveWordSizes outputs = AllByRecursion HasWordSize (params_of outputs)
 abbrev pub OutputsArePrinted : Type 0
 OutputsArePrinted = (result : CallResult) (printed outputs : CopiedParams) → TellsOutputs printed outputs → HaveWordSizes outputs →
     outputs_text result printed ≡ outputs_text result outputs
+
+-- and each of the four is by itself: beside memory whose size is 2^32 or more, of which nothing is said, the other three are still
+abbrev pub EachOutputIsPrinted : Type 0
+EachOutputIsPrinted = (printed output : GpParam) → TellsOutput printed output → HasWordSize output →
+    param_text printed ≡ param_text output

@@ -2,7 +2,7 @@
 
 ghost use Rattle.client_play.specs.Examples.{Examples};
 ghost use Rattle.client_play.specs.Laws.{CallsAreMadeAlike, PreparesAlike};
-ghost use Rattle.client_play.specs.Outputs.{OutputsArePrinted};
+ghost use Rattle.client_play.specs.Outputs.{EachOutputIsPrinted, OutputsArePrinted};
 ghost use Rattle.client_play.specs.PlayLaws.{PlaysAreOfTraces, ResultsAreToldAlone, ScriptsHavePlays};
 ghost use Rattle.client_play.specs.Served.{RunsAreCalls, RunsFail, RunsStop, SmcsAreServed};
 
@@ -59,6 +59,11 @@ pub fn results_are_told_alone()
 /// many bytes.
 pub fn outputs_are_printed()
     ensures { OutputsArePrinted }
+{}
+
+/// And each is by itself, whatever the other three are: where the size of one is 2^32 or more, these are printed so still.
+pub fn each_output_is_printed()
+    ensures { EachOutputIsPrinted }
 {}
 
 /// Plays of small scripts, worked out by hand.

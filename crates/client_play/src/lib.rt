@@ -38,7 +38,7 @@
 //!   the call's last exit, and is none of those that the session had when the call began.
 //! - Where the application returned that result, what the line has of each parameter tells the output of this reply
 //!   (`TellsOutputs`): both numbers of a value, and of memory the size with as many bytes, or none where the buffer has
-//!   fewer. Such outputs are printed as those of the reply are (`outputs_are_printed`). What that memory held
+//!   fewer. Such outputs are printed as those of the reply are (`outputs_are_printed`), each by itself (`each_output_is_printed`). What that memory held
 //!   meanwhile, and whoever wrote it, makes no difference, since the exit writes it last; of bytes behind the size
 //!   nothing is printed.
 //! - For memory this asks that the size which the application sets is below 2^32, as its machine's registers are: that
@@ -52,7 +52,7 @@
 mod laws;
 
 pub use laws::{
-    calls_are_made_alike, outputs_are_printed, plays_are_of_traces, prepares_alike,
-    results_are_told_alone, runs_are_calls, runs_fail, runs_stop, scripts_have_plays,
-    smcs_are_served, worked_examples,
+    calls_are_made_alike, each_output_is_printed, outputs_are_printed, plays_are_of_traces,
+    prepares_alike, results_are_told_alone, runs_are_calls, runs_fail, runs_stop,
+    scripts_have_plays, smcs_are_served, worked_examples,
 };
