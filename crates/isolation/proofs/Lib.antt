@@ -9,6 +9,7 @@ pub mod GoneOut
 pub mod HasCome
 pub mod LeftCalls
 pub mod LogsGrow
+pub mod CallsLogged
 pub mod NewCalls
 pub mod NotesKept
 pub mod OwnLogs

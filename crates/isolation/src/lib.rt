@@ -22,7 +22,8 @@
 //! - `own_events` and `own_replies` are the own events and the own replies of `own_model`'s definitions, whatever the
 //!   session; and of a session that the law of isolation is about the replies are what the machine of one session
 //!   answers to those events. `own_log` gives both by one replay, each event beside its reply, and the session's
-//!   application once its open has come in (`IsLogOf`).
+//!   application once its open has come in (`IsLogOf`). The log has each new call that has got a slot in the session while
+//!   the kernel kept that, the open among them (`logs_have_their_calls`).
 //! - A `LogReader` reads the log off any journal, event by event, with no more asked than by a `Replay`: it answers
 //!   with what the event adds to the log by the definitions, or that no legal and steady history goes on with it
 //!   (`Reads`), or want of memory. What it has told it doesn't keep: what an event adds doesn't depend on what stands
@@ -48,12 +49,15 @@
 //! - `IsJournal` (`Journals`): what a journal has to be to be done again: it is legal, its entries stay within the read
 //!   limit, and reads of one entry agree
 //! - `Reads` (`Reading`): how far a reader has read a session's log: an event adds to the log, or can't come next
+//! - `HasCall` (`Logs`): the log has a call as an event, behind what was noted before it came in: a close that comes in
+//!   behind an open is `Close`, behind the open's two events
 #![tactic(auto)]
 
 mod calls;
 mod coming;
 mod entering;
 mod going;
+mod laws;
 mod leaving;
 mod log_reader;
 mod notes;
@@ -67,6 +71,7 @@ pub use calls::{NewCall, NewOpen, SessionCall, new_call_on};
 pub use coming::errand_of;
 pub use entering::back_in;
 pub use going::left_in;
+pub use laws::logs_have_their_calls;
 pub use leaving::{reply_of, told_at_end, wake_of};
 pub use log_reader::LogReader;
 pub use notes::Back;
