@@ -2,7 +2,7 @@
 use Rattle.std.proofs.Common.{◌≡◌, ℕ, ◌+◌, suc, Bool, cond, not, List, [], ◌∷◌, length, Option, Some, None, refl, sym, ap, ap₂, ◌∙◌, subst}
 use Rattle.std.proofs.Math.Logic.{∥∥₁_elim}
 use Rattle.std.proofs.Props.{props}
-use Rattle.std.specs.Prelude.{IfOk, Result, nat_lt}
+use Rattle.std.specs.Prelude.{IfOk, Result, Ok, Err, nat_lt}
 use Rattle.std.specs.Global.{Box}
 use Rattle.std.specs.List.{position_or_len}
 use Rattle.std.specs.Option.{option_map_or}
@@ -27,7 +27,7 @@ use Rattle.new_calls.specs.declared.decided.Decided.{Decided as NewDecided}
 use Rattle.ns_ram.specs.Reader.{over_lane}
 use Rattle.ns_ram.specs.declared.read.Read.{Read}
 use Rattle.resumed_calls.proofs.Taking.{decision_refused, decision_taken, slot_resumed}
-use Rattle.resumed_calls.specs.Deciding.{CanDecide, IsDecided, IsDecidedFor}
+use Rattle.resumed_calls.specs.Deciding.{CanDecide, IsAppIn, IsDecided, IsDecidedFor, IsInSlot}
 use Rattle.resumed_calls.specs.Giving.{given_as}
 use Rattle.resumed_calls.specs.declared.deciding.Decided.{Decided}
 use Rattle.rpc_cont.specs.declared.cont.Cont.{Cont}
@@ -38,7 +38,7 @@ use Rattle.thread_slots.specs.Slot.{is_free}
 use Rattle.thread_slots.specs.Slots.{lowest_free}
 use Rattle.thread_slots.specs.declared.slot.Slot.{Slot}
 use Rattle.thread_slots.specs.declared.slot.Slot.TheVariants.{Free, Active, Suspended}
-use Rattle.kernel_entry.specs.Deciding.{ComesTo, IsDecided as IsDecidedSo, goes_on_in}
+use Rattle.kernel_entry.specs.Deciding.{ComesTo, HasFound, IsDecided as IsDecidedSo, IsGiven, goes_on_in, resumes_as}
 use Rattle.kernel_entry.specs.Resuming.{IsSuspended}
 use Rattle.kernel_entry.specs.declared.deciding.EntryDecision.{EntryDecision}
 
@@ -130,6 +130,33 @@ suspended_so slots regs lane before after decided can decides = ∥∥₁_elim c
         IsSomeAnd found (IsDecidedFor regs lane before decided after) → IsSuspended slots regs
     by so None is decided = absurd decided
     by so (Some call) is decided = ap is_ok (slot_resumed slots so.beside so.held regs call so.stand is).resumes
+
+-- ---- the call that a resume is for, if there is one
+
+pub call_decided : {E : Type 0} (parts : Parts) (k : Kernel) (regs lane : List ℕ) (before after : List Read) (result : Result (Option Decided) E) → StandsFor parts k →
+    IfOk result (λ call. IsDecided k.slots regs lane before call after) →
+    IfOk result (λ call. ComesTo parts k regs (resume (booted_of_setup parts.setup) k regs) lane before after (resumes_as call))
+call_decided parts k regs lane before after (Ok None) stands is = resume_refused parts k regs lane before after is
+call_decided parts k regs lane before after (Ok (Some decided)) stands is = resume_decides parts k regs lane before after decided stands is
+call_decided parts k regs lane before after (Err error) stands is = tt
+
+pub call_given : {E : Type 0} (parts : Parts) (regs lane : List ℕ) (before after : List Read) (result : Result (Option Decided) E) →
+    ((k : Kernel) → StandsFor parts k → IfOk result (λ call. IsDecided k.slots regs lane before call after)) →
+    IfOk result (λ call. IsGiven parts regs lane before after (resumes_as call))
+call_given parts regs lane before after (Ok None) each = tt
+call_given parts regs lane before after (Ok (Some decided)) each = λ k stands. each k stands
+call_given parts regs lane before after (Err error) each = tt
+
+pub call_suspended : {E : Type 0} (parts : Parts) (regs lane : List ℕ) (before after : List Read) (result : Result (Option Decided) E) → ∥ CanDecide parts.slots regs ∥₁ →
+    ((beside : List Cancellation) (held : List ThreadSlot) → AreSlots parts.slots beside held → IfOk result (λ call. IsDecided held regs lane before call after)) →
+    IfOk result (IsInSlot regs) → IfOk result (IsAppIn (booted_of_setup parts.setup) parts.slots regs) → IfOk result (λ call. HasFound parts regs (resumes_as call))
+call_suspended parts regs lane before after (Ok None) can each slot app = tt
+call_suspended parts regs lane before after (Ok (Some decided)) can each slot app = record {
+  suspended = suspended_so parts.slots regs lane before after decided can each;
+  slot = slot;
+  app = app;
+}
+call_suspended parts regs lane before after (Err error) can each slot app = tt
 
 -- ---- by the call that the registers name
 

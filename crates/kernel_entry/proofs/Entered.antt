@@ -85,6 +85,10 @@ has_pages parts fact = ∥∥₁_elim fact (Prim.hlevel props) (λ (so : Replays
 pub most_bounded : (parts : Parts) → ∥ Replays parts ∥₁ → parts.setup.terms.most ≤ 2 ^ 63
 most_bounded parts fact = ∥∥₁_elim fact (Prim.hlevel props) (λ (so : Replays parts). so.bounded)
 
+-- so far no more was read than may be
+pub few_read : (parts : Parts) → ∥ Replays parts ∥₁ → copied_bytes parts.journal.events ≤ parts.setup.terms.most
+few_read parts fact = ∥∥₁_elim fact (Prim.hlevel props) (λ (so : Replays parts). so.few)
+
 -- each instance is of an application of the boot
 pub have_apps : (parts : Parts) → ∥ Replays parts ∥₁ → HaveApps (booted_of_setup parts.setup) (tables_of parts.tables)
 have_apps parts fact = ∥∥₁_elim fact (Prim.hlevel props) (λ (so : Replays parts). λ number instance there.

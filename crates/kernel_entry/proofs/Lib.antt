@@ -1,3 +1,4 @@
+pub mod Admitted
 pub mod Applied
 pub mod Arrived
 pub mod Carries

@@ -1,6 +1,7 @@
 -- What an entry decides, as the kernel's definitions see it, and what it has found for that.
-use Rattle.std.specs.Prelude.{◌≡◌, ℕ, List, Some}
+use Rattle.std.specs.Prelude.{◌≡◌, ℕ, List, Option, None, Some}
 use Rattle.std.specs.Option.{option_map_or}
+use Rattle.kernel_model.specs.Application.{Booted}
 use Rattle.kernel_model.specs.Argument.{reg, thread_in}
 use Rattle.kernel_model.specs.Codes.{eresume}
 use Rattle.kernel_model.specs.Decision as model
@@ -17,12 +18,13 @@ use Rattle.new_calls.specs.Commands.{CanPin}
 use Rattle.new_calls.specs.Deciding.{call_with, taken_of}
 use Rattle.new_calls.specs.declared.entered.Entered.{Entered}
 use Rattle.new_calls.specs.declared.plan.Plan.{Plan}
-use Rattle.ns_ram.specs.Reader.{Reader, over_lane}
+use Rattle.ns_ram.specs.Reader.{Reader, done, over_lane}
 use Rattle.ns_ram.specs.declared.read.Read.{Read}
 use Rattle.resumed_calls.specs.Deciding as resumed
 use Rattle.resumed_calls.specs.Deciding.{IsAppIn}
 use Rattle.resumed_calls.specs.declared.deciding.Decided.{Decided}
 use Rattle.smc_abi.specs.Call.{call_of}
+use Rattle.smc_abi.specs.declared.answer.Answer.{Answer}
 use Rattle.thread_slots.specs.Slots.{lowest_free}
 use Rattle.kernel_entry.specs.Resuming.{IsSuspended, goes_on_as}
 use Rattle.kernel_entry.specs.declared.deciding.EntryDecision.{EntryDecision}
@@ -41,6 +43,16 @@ decision_as parts kernel regs (decision.Begins call) = model.Takes call.value.en
     (taken_of (call_with (booted_of_setup parts.setup) (tables_of parts.tables) call.value.entered) call.value.plan)
 decision_as parts kernel regs (decision.GoesOn decided) =
     option_map_or (goes_on_in parts regs decided) (call_resumed_by kernel.slots regs) (model.Answers eresume)
+
+-- what was decided of a resume: a call goes on, or there is none
+abbrev pub resumes_as : Option Decided → EntryDecision
+resumes_as None = decision.Answers eresume
+resumes_as (Some decided) = decision.GoesOn decided
+
+-- each kernel of this boot gives a call with these registers this answer, and reads nothing for it
+abbrev pub HasFixedAnswer : Booted → List ℕ → Answer → Type 0
+HasFixedAnswer boot regs answer =
+    (kernel : Kernel) → decision_of boot kernel regs (call_of (reg regs 0)) ≡ done (model.Answers answer)
 
 -- by what is read of the lane this reader comes to what was decided
 abbrev pub ComesTo : Parts → Kernel → List ℕ → Reader Decision → List ℕ → List Read → List Read → EntryDecision →

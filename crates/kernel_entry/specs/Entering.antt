@@ -18,6 +18,8 @@ use Rattle.new_calls.specs.declared.entered.Entered.{Entered}
 use Rattle.new_calls.specs.declared.plan.Plan.{Plan}
 use Rattle.ns_ram.specs.Reads.{total_bytes}
 use Rattle.ns_ram.specs.declared.read.Read.{Read}
+use Rattle.resumed_calls.specs.declared.deciding.Decided.{Decided}
+use Rattle.smc_abi.specs.declared.answer.Answer.{Answer}
 use Rattle.kernel_entry.specs.Applying.{CanTake}
 use Rattle.kernel_entry.specs.Deciding.{CanBegin, HasFound, IsDecided, IsGiven}
 use Rattle.kernel_entry.specs.Resuming.{CanGoOn}
@@ -85,6 +87,13 @@ PreparesEntry old new coming lane (Err refusal) = Enters old new coming lane (Er
 pub record WasPrepared (parts : Parts) (regs : List ℕ) (prepared : Prepared) : Type 0 where
   pub lane : List ℕ
   pub is : IsPrepared parts regs lane prepared
+
+-- what was prepared for an answer, and for a call that goes on
+abbrev pub answered : Answer → List Read → Prepared
+answered answer reads = record { decision = decision.Answers answer; reads = reads }
+
+abbrev pub going_on : Decided → List Read → Prepared
+going_on decided reads = record { decision = decision.GoesOn decided; reads = reads }
 
 -- ---- as it comes in
 

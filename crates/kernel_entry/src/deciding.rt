@@ -8,12 +8,13 @@ ghost use Rattle.kernel_state.specs.StandsFor.{StandsFor};
 ghost use Rattle.kernel_state.specs.Tables.{HasFreePages, tables_of};
 ghost use Rattle.new_calls.specs.Applying.{HaveApps};
 ghost use Rattle.resumed_calls.specs.Deciding.{CanDecide};
-ghost use Rattle.kernel_entry.specs.Deciding.{ComesTo, HasFound, IsDecided, IsGiven};
+ghost use Rattle.kernel_entry.specs.Deciding.{ComesTo, HasFound, IsDecided, IsGiven, resumes_as};
 
 use base::NoMemory;
 use kernel_state::Parts;
 use new_calls::{Entered, Found, Plan, lowest_free, new_call};
 use ns_ram::{Lane, Reads};
+use resumed_calls::Decided;
 use smc_abi::{Answer, Call, ERESUME, Regs, UNKNOWN_FUNCTION, decode_call, fast_answer};
 use std::alloc::Global;
 
@@ -33,7 +34,7 @@ pub enum EntryDecision {
     /// A new call takes its slot for its plan.
     Begins(Box<PlannedCall>),
     /// The call that the registers name goes on with this.
-    GoesOn(resumed_calls::Decided),
+    GoesOn(Decided),
 }
 
 /// What is decided of a call with these registers. All that it reads is listed.
@@ -98,7 +99,7 @@ fn decide_new(
     }
 }
 
-/// What is decided of a resume.
+/// What is decided of a resume, as a decision of an entry.
 #[inline(never)]
 fn decide_resume(
     alloc: Global,
@@ -114,15 +115,34 @@ fn decide_resume(
     ensures given { IfOk result (IsGiven parts.now regs.now.a lane.now reads.old reads.new) }
     ensures found { IfOk result (HasFound parts.now regs.now.a) }
 {
-    let call = resumed_calls::decide(alloc, &parts.setup, &parts.slots, regs, lane, reads)?;
+    let call = resumed_call(alloc, parts, regs, lane, reads)?;
     match call {
         Some(decided) => Ok(EntryDecision::GoesOn(decided)),
         None => Ok(EntryDecision::Answers(code(ERESUME))),
     }
 }
 
+/// What is decided of a resume: the call that goes on, with what, if there is one.
+#[inline(always)]
+pub(crate) fn resumed_call(
+    alloc: Global,
+    parts: &Parts,
+    regs: &Regs,
+    lane: &Lane,
+    reads: &mut Reads,
+) -> Result<Option<Decided>, NoMemory>
+    requires { ∥ CanDecide parts.now.slots regs.now.a ∥₁ }
+    ensures decides { (kernel : Kernel) → StandsFor parts.now kernel → IfOk result (λ call.
+        ComesTo parts.now kernel regs.now.a (resume (booted_of_setup parts.now.setup) kernel regs.now.a)
+        lane.now reads.old reads.new (resumes_as call)) }
+    ensures given { IfOk result (λ call. IsGiven parts.now regs.now.a lane.now reads.old reads.new (resumes_as call)) }
+    ensures found { IfOk result (λ call. HasFound parts.now regs.now.a (resumes_as call)) }
+{
+    resumed_calls::decide(alloc, &parts.setup, &parts.slots, regs, lane, reads)
+}
+
 /// An answer of this code alone.
-fn code(code: u32) -> Answer
+pub(crate) fn code(code: u32) -> Answer
     ensures { result ≡ Answer.Words code 0 0 0 }
 {
     Answer::Words(code, 0, 0, 0)

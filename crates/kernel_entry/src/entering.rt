@@ -9,19 +9,22 @@ ghost use Rattle.kernel_entry.specs.Deciding.{decision_as};
 ghost use Rattle.kernel_entry.specs.Entering.{CanFollow, HasMoreRoom, IsCarriedBy, IsPrepared, PreparesEntry, WasPrepared};
 ghost use Rattle.kernel_entry.specs.Visiting.{HasComeIn, StandsAfter, coming_of};
 
+use crate::answering::enter_at_once;
 use crate::beginning::enter_new;
-use crate::deciding::EntryDecision;
+use crate::deciding::{EntryDecision, code};
 use crate::fixed::enter_fixed;
 use crate::preparing::{Prepared, prepare_parts};
 use crate::resuming::enter_resumed;
+use crate::returning::enter_returning;
 use crate::visitor::Visitor;
 use event_log::Log;
 use kernel_state::{Carried, Core, EnterRefusal, Parts, Work};
 use ns_ram::{Lane, Reads};
+use smc_abi::{Call, UNKNOWN_FUNCTION, decode_call, fast_answer};
 use std::alloc::Global;
 
 /// The place that the next event gets.
-fn next_place(journal: &Log) -> u64
+pub(crate) fn next_place(journal: &Log) -> u64
     ensures place { result ≡ length journal.now.events }
     ensures fits { length journal.now.events < 2 ^ 64 }
 {
@@ -91,8 +94,33 @@ pub fn admit(alloc: Global, core: &mut Core, visitor: Visitor, prepared: Prepare
     }
 }
 
-/// A processor comes in: its entry is prepared, and it is let in. Where it is refused the core is as it was.
+/// A processor comes in, by what its registers ask for: its entry is prepared, and it is let in. Where it is refused the core
+/// is as it was.
 pub fn enter(
+    alloc: Global,
+    core: &mut Core,
+    visitor: Visitor,
+    lane: &Lane,
+) -> Result<Work, EnterRefusal>
+    requires { CanEnter core.old (coming_of visitor) }
+    ensures { Enters core.old core.new (coming_of visitor) lane.now result }
+{
+    match decode_call(&visitor.regs) {
+        Call::Fast(call) => {
+            let answer = fast_answer(call, &visitor.regs, core.parts.setup.threads);
+            enter_at_once(alloc, core, visitor, answer)
+        }
+        Call::WithArg | Call::WithRpcArg | Call::WithRegdArg => enter_prepared(
+            alloc, core, visitor, lane,
+        ),
+        Call::Resume => enter_returning(alloc, core, visitor, lane),
+        Call::Unknown => enter_at_once(alloc, core, visitor, code(UNKNOWN_FUNCTION)),
+    }
+}
+
+/// The same, by a decision of any kind. It is built into no other entry, since that would clear its places, too.
+#[inline(never)]
+fn enter_prepared(
     alloc: Global,
     core: &mut Core,
     visitor: Visitor,

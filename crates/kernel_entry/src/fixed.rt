@@ -13,6 +13,7 @@ use ns_ram::Reads;
 use smc_abi::Answer;
 
 /// Lets a processor in for an answer that is fixed: the parts stand for the kernel after it.
+#[inline(always)]
 pub fn enter_fixed(parts: &mut Parts, visitor: Visitor, answer: Answer, reads: Reads)
     requires cpu { visitor.cpu < length parts.old.processors.items }
     requires room { parts.old.setup.cpus < parts.old.journal.spare }

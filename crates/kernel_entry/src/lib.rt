@@ -17,7 +17,7 @@
 //! - `prepare` takes all memory of an entry, and tells what was decided: the kernel decides just so, by just the reads
 //!   that are listed, and a call that goes on is given just this. The core stays, with more room; or the entry is
 //!   refused as below. `admit` then lets a processor with these registers in; it takes no memory and can't fail.
-//! - `enter` is both, the entry of a core: one event more, whose reads have the lane's bytes, and the work of its
+//! - `enter` comes to the same, and parts the kinds of calls at once: one event more, whose reads have the lane's bytes, and the work of its
 //!   processor; or it is refused, with more bytes read together than the core's terms allow or for want of memory, and
 //!   boot, terms and events are as they were. All memory is taken before anything changes.
 //! - What the parts ask for of legal histories is proved here from `kernel_model`'s laws: the slot's call doesn't wait
@@ -46,10 +46,10 @@
 //!
 //! | Test or case | Kernel's definition | Code |
 //! |---|---|---|
-//! | a fast call | `decision_of`: `Fast call` | `decide`: `Call::Fast(call)` |
-//! | a new call | `decision_of`: `WithArg`, `WithRpcArg`, `WithRegdArg`, `new_call` | `decide_new`, with `new_call` of `new_calls` |
-//! | a resume | `decision_of`: `Resume`, `resume` | `decide_resume`, with `decide` of `resumed_calls` |
-//! | an unknown function | `decision_of`: `Unknown` | `decide`: `Call::Unknown` |
+//! | a fast call | `decision_of`: `Fast call` | `enter`, `decide`: `Call::Fast(call)`; `enter_at_once` |
+//! | a new call | `decision_of`: `WithArg`, `WithRpcArg`, `WithRegdArg`, `new_call` | `enter_prepared`; `decide_new`, with `new_call` of `new_calls` |
+//! | a resume | `decision_of`: `Resume`, `resume` | `enter_returning`; `resumed_call`, with `decide` of `resumed_calls` |
+//! | an unknown function | `decision_of`: `Unknown` | `enter`, `decide`: `Call::Unknown`; `enter_at_once` |
 //! | all reads have at most as many bytes as the core's terms allow, or the entry is refused | `IsTooMuch` of `kernel_state` | `fit`: `if more > most - copied` |
 //! | an answer is fixed | `after_decision`: `Answers answer` | `enter_fixed` |
 //! | a slot is taken for a new call | `after_decision`: `Takes slot taken`, `cancelled_slots` | `enter_new`, with `enter_with`: `apply`, then `take_slot` |
@@ -70,6 +70,7 @@
 //! | unregister | `drops_buffer` | `drop_buffer` |
 #![tactic(auto)]
 
+mod answering;
 mod beginning;
 mod buffers;
 mod carrying;
@@ -83,6 +84,7 @@ mod pinning;
 mod plans;
 mod preparing;
 mod resuming;
+mod returning;
 mod settling;
 mod taking;
 mod visitor;

@@ -80,7 +80,8 @@ fn make_box(alloc: Global, blanks: &mut Blanks, decision: &EntryDecision) -> Res
 }
 
 /// What the entry has read, beside what all entries before it have, is at most so much.
-fn fit(journal: &Log, most: u64, reads: &Reads) -> Result<(), EnterRefusal>
+#[inline(always)]
+pub(crate) fn fit(journal: &Log, most: u64, reads: &Reads) -> Result<(), EnterRefusal>
     requires { copied_bytes journal.now.events ≤ most }
     ensures { Fit most (copied_bytes journal.now.events) (total_bytes reads.now) result }
 {

@@ -70,7 +70,7 @@ fn go_on(parts: &mut Parts, regs: &Regs, cpu: u8, decided: Decided) -> Box<Cont<
 
 /// Lets a processor in for the call that its registers name, which goes on with this. The parts stand for the kernel
 /// after it, and the processor carries what the call has come to.
-#[inline(never)]
+#[inline(always)]
 pub fn enter_resumed(parts: &mut Parts, visitor: Visitor, decided: Decided, reads: Reads) -> Carried
     requires cpu { visitor.cpu < length parts.old.processors.items }
     requires room { parts.old.setup.cpus < parts.old.journal.spare }

@@ -2,12 +2,13 @@
 ghost use Rattle.std.specs.Prelude.{◌≡◌, ◌+◌, ◌<◌, ◌≤◌, ◌^◌, OnErr, OnOk, length};
 ghost use Rattle.event_journal.specs.Journal.{copied_bytes};
 ghost use Rattle.ns_ram.specs.Reads.{total_bytes};
+ghost use Rattle.kernel_entry.specs.Entering.{HasMoreRoom};
 ghost use Rattle.kernel_entry.specs.Visiting.{IsInside};
 
 use base::NoMemory;
 use event_journal::Event;
 use event_log::Log;
-use kernel_state::{Errand, Parts, Processor};
+use kernel_state::{Core, Errand, Parts, Processor};
 use ns_ram::Reads;
 use smc_abi::Regs;
 
@@ -30,7 +31,17 @@ pub fn make_room(journal: &mut Log, cpus: u8) -> Result<(), NoMemory>
     journal.reserve(u32::from(cpus) + 1)
 }
 
+/// The same of a core, for its processors.
+#[inline(always)]
+pub(crate) fn make_room_in(core: &mut Core) -> Result<(), NoMemory>
+    ensures more { HasMoreRoom core.old.parts core.new.parts }
+    ensures room { OnOk result (core.new.parts.setup.cpus + 1 ≤ core.new.parts.journal.spare) }
+{
+    make_room(&mut core.parts.journal, core.parts.setup.cpus)
+}
+
 /// Lets a processor in for this, with what its entry has read.
+#[inline(always)]
 pub(crate) fn let_in(parts: &mut Parts, visitor: Visitor, errand: Errand, reads: Reads)
     requires cpu { visitor.cpu < length parts.old.processors.items }
     requires room { 0 < parts.old.journal.spare }
