@@ -209,12 +209,12 @@ module _ (c : Call) (named : Session × Instance) where
 
 pub plan_is : (c : Call) (plan : Plan) → CanApply c plan → IsPlanned (taken_of c plan) (call_by c.head.func (is_some c.area) plan)
 plan_is c (plan.Settles how) can = settled_is c how
-plan_is c (plan.Opens app login copies) can = open_is c (application_of app) login (copies_in copies)
+plan_is c (plan.Opens app login copies) can = open_is c (application_of app) login (copies_in copies.value)
 plan_is c (plan.Invokes session app copies) can =
     subst (λ (taken : Taken). IsPlanned taken
-    (Some (new.InSession (in_session.Invoke c.head.func (input.Copied copies.params) (is_some c.area)))))
-    (begins_there c session can.there.instance (λ named. invokes c named (copies_in copies)) can.there.named)
-    (invoke_is c (session, can.there.instance) (copies_in copies))
+    (Some (new.InSession (in_session.Invoke c.head.func (input.Copied copies.value.params) (is_some c.area)))))
+    (begins_there c session can.there.instance (λ named. invokes c named (copies_in copies.value)) can.there.named)
+    (invoke_is c (session, can.there.instance) (copies_in copies.value))
 plan_is c (plan.Closes session app) can =
     subst (λ (taken : Taken). IsPlanned taken (Some (new.InSession (in_session.Close (is_some c.area)))))
     (begins_there c session can.instance (λ named. closes c named) can.named)

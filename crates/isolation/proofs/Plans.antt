@@ -233,11 +233,11 @@ pub plan_event_is : (session : ℕ) (c : NewCall) (plan : Plan) → CanApply c p
     → IsEventOf session (taken_of c plan) (event_by c.head.func (is_some c.area) plan)
 plan_event_is session c (plan.Settles settled) can = settled_event_is session c settled
 plan_event_is session c (plan.Opens app login copies) can =
-    open_event_is session c (application_of app) login (copies_in copies)
+    open_event_is session c (application_of app) login (copies_in copies.value)
 plan_event_is session c (plan.Invokes in_session app copies) can =
-    subst (λ (taken : Taken). IsEventOf session taken (Some (event.Invoke c.head.func (input.Copied copies.params) (is_some c.area))))
-    (begins_there c in_session can.there.instance (λ named. invokes c named (copies_in copies)) can.there.named)
-    (invoke_event_is session c (in_session, can.there.instance) (copies_in copies))
+    subst (λ (taken : Taken). IsEventOf session taken (Some (event.Invoke c.head.func (input.Copied copies.value.params) (is_some c.area))))
+    (begins_there c in_session can.there.instance (λ named. invokes c named (copies_in copies.value)) can.there.named)
+    (invoke_event_is session c (in_session, can.there.instance) (copies_in copies.value))
 plan_event_is session c (plan.Closes in_session app) can =
     subst (λ (taken : Taken). IsEventOf session taken (Some (event.Close (is_some c.area))))
     (begins_there c in_session can.instance (λ named. closes c named) can.named)
@@ -273,9 +273,9 @@ plan_names c (plan.Settles (settled.Invoke code)) func area came is =
     λ notes. named (taken_of c (plan.Settles (settled.Invoke code))).call notes notes.uuid (event.Invoke func (invoke_input code) area) came is refl
 plan_names c (plan.Opens app login copies) func area came is =
     λ notes. named (taken_of c (plan.Opens app login copies)).call notes (Some (uuid_of (application_of app)))
-    (event.Open copies.params login area) came is (open_is_of c (application_of app) login (copies_in copies))
+    (event.Open copies.value.params login area) came is (open_is_of c (application_of app) login (copies_in copies.value))
 plan_names c (plan.Invokes in_session app copies) func area came is =
-    λ notes. named (taken_of c (plan.Invokes in_session app copies)).call notes notes.uuid (event.Invoke func (input.Copied copies.params) area) came is refl
+    λ notes. named (taken_of c (plan.Invokes in_session app copies)).call notes notes.uuid (event.Invoke func (input.Copied copies.value.params) area) came is refl
 plan_names c (plan.Closes in_session app) func area came is =
     λ notes. named (taken_of c (plan.Closes in_session app)).call notes notes.uuid (event.Close area) came is refl
 plan_names c plan.Cancels func area came is = λ notes. named (taken_of c plan.Cancels).call notes notes.uuid event.Cancel came is refl

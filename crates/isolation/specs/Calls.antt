@@ -60,9 +60,9 @@ call_by func area (plan.Settles (settled.Call code)) = None
 call_by func area (plan.Settles (settled.Open app login code)) = Some (Opens (settled_open (application_of app) login code area))
 call_by func area (plan.Settles (settled.Invoke code)) = Some (InSession (in_session.Invoke func (invoke_input code) area))
 call_by func area (plan.Opens app login copies) =
-    Some (Opens (reserving_open (application_of app) (input.Copied copies.params) login area))
+    Some (Opens (reserving_open (application_of app) (input.Copied copies.value.params) login area))
 call_by func area (plan.Invokes session app copies) =
-    Some (InSession (in_session.Invoke func (input.Copied copies.params) area))
+    Some (InSession (in_session.Invoke func (input.Copied copies.value.params) area))
 call_by func area (plan.Closes session app) = Some (InSession (in_session.Close area))
 call_by func area plan.Cancels = Some (InSession in_session.Cancel)
 call_by func area (plan.KeepsBuffer cookie buffer) = None

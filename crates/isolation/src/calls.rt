@@ -109,7 +109,7 @@ fn call_by(func: u32, area: bool, plan: Plan) -> Option<NewCall>
         })),
         Plan::Opens { app, login, copies } => Some(NewCall::Opens(NewOpen {
             uuid: app.uuid(),
-            input: OwnInput::Copied(copies.params),
+            input: OwnInput::Copied(Box::into_inner(copies).params),
             login,
             limited: false,
             area,
@@ -117,7 +117,7 @@ fn call_by(func: u32, area: bool, plan: Plan) -> Option<NewCall>
         })),
         Plan::Invokes { copies, .. } => Some(NewCall::InSession(SessionCall::Invoke {
             func,
-            input: OwnInput::Copied(copies.params),
+            input: OwnInput::Copied(Box::into_inner(copies).params),
             area,
         })),
         Plan::Closes { .. } => Some(NewCall::InSession(SessionCall::Close { area })),

@@ -237,7 +237,7 @@ pub fits_plan : (setup : Setup) (calls : Calls) (tables : Tables) (entered : Ent
     CanApply (call_with (booted_of_setup setup) (tables_of tables) entered) of → FitsPlan tables entered.slot of
 fits_plan setup calls tables entered (plan.Settles settled) is_boot sound free few pages can = tt
 fits_plan setup calls tables entered (plan.Opens app login copies) is_boot sound free few pages can =
-    fits_open setup calls tables entered (application_of app) copies.cookies.items is_boot sound free few pages can
+    fits_open setup calls tables entered (application_of app) copies.value.cookies.items is_boot sound free few pages can
 fits_plan setup calls tables entered (plan.Invokes session app copies) is_boot sound free few pages can =
     fits_session setup calls tables entered (application_of app) session is_boot sound free few can.there
 fits_plan setup calls tables entered (plan.Closes session app) is_boot sound free few pages can =

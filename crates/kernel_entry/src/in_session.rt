@@ -58,25 +58,25 @@ pub(crate) fn apply_invoke(
     entered: &Entered,
     session: Session,
     app: Application,
-    copies: TakenParams,
+    copies: Box<TakenParams>,
     cont: &mut Cont<Pages>,
 )
     requires blank { IsBlank cont.old }
     requires comes { MayCome tables.old entered.now.slot (application_of app) }
     requires works { MayWork tables.old (application_of app) session }
-    requires buffers { AreRegistered (tables_of tables.old) copies.cookies.items }
+    requires buffers { AreRegistered (tables_of tables.old) copies.value.cookies.items }
     ensures taken { (boot : Booted) (instance : AnyInstance) → cont.old.key ≡ boot.key
         → get (tables_of tables.old).instances session.instance ≡ Some instance
         → app_of boot instance.uuid ≡ Some (application_of app)
         → IsTaken None entered.now tables.new cont.new
-        (invokes (call_found boot (tables_of tables.old) entered.now) (session, instance) (copies_in copies)) }
+        (invokes (call_found boot (tables_of tables.old) entered.now) (session, instance) (copies_in copies.value)) }
     ensures pages { (setup : AnySetup) → HasFreePages setup tables.old → HasFreePages setup tables.new }
 {
     let TakenParams {
         params,
         places,
         cookies,
-    } = copies;
+    } = Box::into_inner(copies);
     let func = entered.head.func;
     let entry = CallEntry {
         client: entered.client,

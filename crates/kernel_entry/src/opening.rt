@@ -71,16 +71,16 @@ pub(crate) fn apply_open(
     entered: &Entered,
     app: Application,
     login: Login,
-    copies: TakenParams,
+    copies: Box<TakenParams>,
     cont: &mut Cont<Pages>,
 )
     requires blank { IsBlank cont.old }
     requires comes { MayCome tables.old entered.now.slot (application_of app) }
     requires opens { MayOpen tables.old (application_of app) }
-    requires buffers { AreRegistered (tables_of tables.old) copies.cookies.items }
+    requires buffers { AreRegistered (tables_of tables.old) copies.value.cookies.items }
     ensures taken { (boot : Booted) → cont.old.key ≡ boot.key → IsTaken None entered.now tables.new cont.new
         (opens_or_waits (call_found boot (tables_of tables.old) entered.now) (asked_by (application_of app) login)
-        (application_of app) (copies_in copies)) }
+        (application_of app) (copies_in copies.value)) }
     ensures pages { (setup : AnySetup)
         → app_of (booted_of_setup setup) (uuid_of (application_of app)) ≡ Some (application_of app)
         → HasFreePages setup tables.old → HasFreePages setup tables.new }
@@ -89,7 +89,7 @@ pub(crate) fn apply_open(
         params,
         places,
         cookies,
-    } = copies;
+    } = Box::into_inner(copies);
     let entry = CallEntry {
         client: entered.client,
         kind: CallKind::Open,

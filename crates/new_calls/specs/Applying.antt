@@ -62,8 +62,8 @@ pub record CanDrop (c : NewCall) (cookie : ℕ) : Type 0 where
 -- the plan can be applied
 abbrev pub CanApply : NewCall → Plan → Type 0
 CanApply c (plan.Settles settled) = Unit {0}
-CanApply c (plan.Opens app login copies) = CanOpen c (application_of app) copies.cookies.items
-CanApply c (plan.Invokes session app copies) = CanInvoke c session (application_of app) copies.cookies.items
+CanApply c (plan.Opens app login copies) = CanOpen c (application_of app) copies.value.cookies.items
+CanApply c (plan.Invokes session app copies) = CanInvoke c session (application_of app) copies.value.cookies.items
 CanApply c (plan.Closes session app) = IsInSession c session (application_of app)
 CanApply c plan.Cancels = Unit {0}
 CanApply c (plan.KeepsBuffer cookie buffer) = CanKeep c cookie buffer

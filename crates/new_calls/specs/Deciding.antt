@@ -1,7 +1,7 @@
 -- What the code's words for a new call and for what becomes of it stand for in the kernel's definitions.
 use Rattle.std.specs.Prelude.{◌≡◌, ℕ, [], List, Option, Some, None, Result, Ok, Err}
 use Rattle.std.specs.Option.{option_map_or}
-use Rattle.std.specs.Global.{Vec}
+use Rattle.std.specs.Global.{Box, Vec}
 use Rattle.base.specs.NumberMap.{get, insert, remove}
 use Rattle.ns_ram.specs.declared.read.Read.{Read}
 use Rattle.ns_ram.specs.Reader.{over_lane}
@@ -73,9 +73,9 @@ taken_in_session c session begins =
 abbrev pub taken_of : model.NewCall → Plan → Taken
 taken_of c (plan.Settles settled) = settled_of c settled
 taken_of c (plan.Opens app login copies) =
-    opens_or_waits c (asked_by (application_of app) login) (application_of app) (copies_in copies)
+    opens_or_waits c (asked_by (application_of app) login) (application_of app) (copies_in copies.value)
 taken_of c (plan.Invokes session app copies) =
-    taken_in_session c session (λ named. invokes c named (copies_in copies))
+    taken_in_session c session (λ named. invokes c named (copies_in copies.value))
 taken_of c (plan.Closes session app) = taken_in_session c session (λ named. closes c named)
 taken_of c plan.Cancels = cancels c
 taken_of c (plan.KeepsBuffer cookie buffer) = keeps_buffers c (insert c.tables.registered.buffers cookie buffer)
@@ -104,9 +104,9 @@ HaveSaid c shape said lane before between =
     × (shape params ≡ Some said)
 
 -- the copied parameters, or else the slot is taken so
-abbrev pub copies_or : Taken → Option TakenParams → Result Copies Taken
+abbrev pub copies_or : Taken → Option (Box TakenParams) → Result Copies Taken
 copies_or faulty None = Err faulty
-copies_or faulty (Some copies) = Ok (copies_in copies)
+copies_or faulty (Some copies) = Ok (copies_in copies.value)
 
 -- the pages, or else the slot is taken so
 abbrev pub pages_or : Taken → Option (Vec ℕ) → Result (List ℕ) Taken

@@ -37,7 +37,7 @@ impl NewCall<'_> {
         Ok(params)
     }
 
-    /// Those of an open or invoke copied, of which the first has this number in the argument. None where one can't be.
+    /// Those of an open or invoke copied into a box, of which the first has this number in the argument. None where one can't be.
     pub(crate) fn copied_params(
         &self,
         alloc: Global,
@@ -45,17 +45,20 @@ impl NewCall<'_> {
         params: &[MsgParam],
         first: u8,
         reads: &mut Reads,
-    ) -> Result<Option<TakenParams>, NoMemory>
+    ) -> Result<Option<Box<TakenParams>>, NoMemory>
         requires few { length params.now ≤ 4 }
         requires first { first ≤ 2 }
         ensures copied { IfOk result (λ copies. (faulty : AnyTaken) →
             over_lane (copied_params (call_of self.now) params.now first faulty) lane.now reads.old
             ≡ Some (copies_or faulty copies, reads.new)) }
         ensures cookies { IfOk result (λ copies. IfSome copies (λ taken.
-            AreRegistered (tables_of self.now.tables.now) taken.cookies.items)) }
+            AreRegistered (tables_of self.now.tables.now) taken.value.cookies.items)) }
     {
         match take_params(alloc, lane, &self.tables.registry, params, first, reads) {
-            Ok(copies) => Ok(Some(copies)),
+            Ok(copies) => {
+                let boxed = Box::new(alloc, copies)?;
+                Ok(Some(boxed))
+            }
             Err(CopyFault::Memory) => Err(NoMemory),
             Err(CopyFault::TooLong(_)) => Ok(None),
             Err(CopyFault::Cookie(_)) => Ok(None),

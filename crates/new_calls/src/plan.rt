@@ -6,7 +6,7 @@ use shm_registry::PageBuffer;
 use ta_params::Login;
 
 /// What a new call's tests have come to: what its slot is taken for, before anything is changed. It has all that the
-/// change needs, but for the call's own memory.
+/// change needs, but for the call's own memory. What was copied stands in a box, since the plan goes through many hands.
 #[derive(Drop)]
 pub enum Plan {
     /// A test failed.
@@ -16,13 +16,13 @@ pub enum Plan {
     Opens {
         app: Application,
         login: Login,
-        copies: TakenParams,
+        copies: Box<TakenParams>,
     },
     /// A function is invoked in this session, whose instance is of this application; or that waits.
     Invokes {
         session: Session,
         app: Application,
-        copies: TakenParams,
+        copies: Box<TakenParams>,
     },
     /// This session is closed, whose instance is of this application; or that waits.
     Closes {

@@ -18,9 +18,9 @@ returns-in-Settles-clause-taken c boot keyed applies =
 pub returns-in-Invokes-clause-taken : goal.returns-in-Invokes-clause-taken
 returns-in-Invokes-clause-taken c boot keyed applies =
     let model = call_found boot (tables_of c.args.tables.now) c.args.entered.now in
-    let can : CanInvoke model c.in-Invokes.session (application_of c.in-Invokes.app) c.in-Invokes.copies.cookies.items = rw c.in-Invokes.is at applies in
+    let can : CanInvoke model c.in-Invokes.session (application_of c.in-Invokes.app) c.in-Invokes.copies.value.cookies.items = rw c.in-Invokes.is at applies in
     rw c.in-Invokes.is (in_session_taken model c.in-Invokes.session (application_of c.in-Invokes.app) c.args.entered.now c.apply_invoke.new.tables c.apply_invoke.new.cont
-    (λ named. invokes model named (copies_in c.in-Invokes.copies)) can.there
+    (λ named. invokes model named (copies_in c.in-Invokes.copies.value)) can.there
     (c.apply_invoke.ensures.taken boot can.there.instance keyed (found_there model c.in-Invokes.session (application_of c.in-Invokes.app) can.there) can.there.known))
 
 pub returns-in-Invokes-clause-pages : goal.returns-in-Invokes-clause-pages

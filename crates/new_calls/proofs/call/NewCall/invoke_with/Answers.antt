@@ -29,7 +29,7 @@ pub returns-clause-decides : goal.returns-clause-decides
 returns-clause-decides c before said =
     let call = call_of c.args.self.now in
     let session = c.in-Some.session in
-    let copies = copies_in c.in-Some-2.copies in
+    let copies = copies_in c.in-Some-2.copies.value in
     invoke_passes call c.args.lane.now before c.args.reads.now c.copied_params.new.reads c.args.invoked.now session (instance_of c.in-Some.instance.now) copies
     said c.in-Some.ensures c.if-instance.false
     (rw c.in-Some-2.is at (c.in_ok-copies.ensures.copied (settles_invoke call bad_parameters)))

@@ -33,7 +33,7 @@ returns-clause-decides c before said =
     let call = call_of c.args.self.now in
     let app = application_of c.in-Some.app in
     let faulty = settles_open call app c.args.wanted.now.login bad_parameters in
-    open_passes call c.args.lane.now before c.args.reads.now c.copied_params.new.reads (opening_of c.args.wanted.now) app (copies_in c.in-Some-2.copies)
+    open_passes call c.args.lane.now before c.args.reads.now c.copied_params.new.reads (opening_of c.args.wanted.now) app (copies_in c.in-Some-2.copies.value)
     said (rw c.in-Some.is at c.in_ok-app.ensures) (sym c.in_default-open_fault.ensures)
     (rw c.in-Some-2.is at (c.in_ok-copies.ensures.copied faulty))
 
