@@ -26,7 +26,7 @@ use Rattle.new_calls.specs.declared.halt.Halt.{Halt}
 use Rattle.new_calls.specs.declared.halt.Halt.TheVariants as halt
 use Rattle.new_calls.specs.declared.halt.Settled.{Settled}
 use Rattle.new_calls.specs.declared.halt.Settled.TheVariants as settled
-use Rattle.new_calls.specs.declared.call.NewCall.{NewCall}
+use Rattle.new_calls.specs.declared.call.CallAtEntry.{CallAtEntry}
 use Rattle.new_calls.specs.declared.plan.Plan.{Plan}
 use Rattle.new_calls.specs.declared.plan.Plan.TheVariants as plan
 
@@ -48,7 +48,7 @@ call_found boot tables entered = record {
 abbrev pub call_with : Booted → kernel.Tables → Entered → model.NewCall
 call_with boot tables entered = call_found boot (with_argument_pinned entered.cookie tables entered.slot) entered
 
-abbrev pub call_of : NewCall → model.NewCall
+abbrev pub call_of : CallAtEntry → model.NewCall
 call_of call = call_with (booted_of_setup call.setup.now) (tables_of call.tables.now) call.entered
 
 -- ---- what becomes of it
@@ -92,7 +92,7 @@ ComesTo c tests means lane before after (Err (halt.Settled settled)) =
 ComesTo c tests means lane before after (Err halt.Memory) = Unit {0}
 
 -- the tests of a command come to this plan, or settle the call
-abbrev pub Decides : NewCall → (model.NewCall → Tested Taken) → List ℕ → List Read →
+abbrev pub Decides : CallAtEntry → (model.NewCall → Tested Taken) → List ℕ → List Read →
     List Read → Result (Plan) (Halt) → Type 0
 Decides call tests lane before after decided =
     ComesTo (call_of call) (tests (call_of call)) (taken_of (call_of call)) lane before after decided

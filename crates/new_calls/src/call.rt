@@ -3,7 +3,7 @@ use kernel_state::{Setup, Tables};
 
 /// A call that has passed the tests of every call, with the tables that it found, lent to read.
 #[derive(Drop)]
-pub struct NewCall<'a> {
+pub struct CallAtEntry<'a> {
     pub setup: &'a Setup,
     pub tables: &'a Tables,
     pub entered: Entered,

@@ -4,12 +4,12 @@ ghost use Rattle.new_calls.specs.Applying.{CanApply};
 ghost use Rattle.new_calls.specs.Deciding.{Decides, call_of};
 ghost use Rattle.ns_ram.specs.declared.read.Read.{Read as AnyRead};
 
-use crate::call::NewCall;
+use crate::call::CallAtEntry;
 use crate::halt::{Halt, Settled};
 use crate::plan::Plan;
 use ta_params::codes::TEE_ERROR_BAD_PARAMETERS;
 
-impl NewCall<'_> {
+impl CallAtEntry<'_> {
     /// The pending calls of the named session that have the call's number are cancelled, and the cancel succeeds, also
     /// where there are none. Its parameters are ignored.
     pub fn cancel_calls(&self) -> Result<Plan, Halt>

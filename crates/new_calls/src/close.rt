@@ -6,12 +6,12 @@ ghost use Rattle.new_calls.specs.Applying.{CanApply, HaveApps};
 ghost use Rattle.new_calls.specs.Deciding.{Decides, call_of};
 ghost use Rattle.ns_ram.specs.declared.read.Read.{Read as AnyRead};
 
-use crate::call::NewCall;
+use crate::call::CallAtEntry;
 use crate::halt::{Halt, Settled};
 use crate::plan::Plan;
 use ta_params::codes::TEE_ERROR_BAD_PARAMETERS;
 
-impl NewCall<'_> {
+impl CallAtEntry<'_> {
     /// The tests of a close, and what it begins. Its parameters are ignored, and its instance may be dead.
     pub fn close_session(&self) -> Result<Plan, Halt>
         requires { HaveApps (booted_of_setup self.now.setup.now) (tables_of self.now.tables.now) }

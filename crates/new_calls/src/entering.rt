@@ -15,7 +15,7 @@ ghost use Rattle.new_calls.specs.Applying.{CanApply, HaveApps};
 ghost use Rattle.new_calls.specs.Commands.{CanTake, ComesIn, IsInSlot, decision_of, tests_of};
 ghost use Rattle.new_calls.specs.Deciding.{Decides, call_of, taken_of};
 
-use crate::call::NewCall;
+use crate::call::CallAtEntry;
 use crate::command::{Command, command_of};
 use crate::decided::{Decided, Found};
 use crate::entered::Entered;
@@ -77,13 +77,13 @@ pub fn new_call(
         Err(Refused::Answer(answer)) => return Ok(Decided::Answers(answer)),
         Err(Refused::Memory) => return Err(NoMemory),
     };
-    let call = NewCall {
+    let call = CallAtEntry {
         setup: found.setup,
         tables: found.tables,
         entered,
     };
     let plan = call.plan(command, alloc, lane, reads)?;
-    let NewCall { entered, .. } = call;
+    let CallAtEntry { entered, .. } = call;
     Ok(Decided::Takes(entered, plan))
 }
 
@@ -127,7 +127,7 @@ fn come_in(
     Ok((entered, command))
 }
 
-impl NewCall<'_> {
+impl CallAtEntry<'_> {
     /// What the slot is taken for, by a test that fails or at the end.
     fn plan(
         &self,

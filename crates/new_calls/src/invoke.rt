@@ -8,7 +8,7 @@ ghost use Rattle.new_calls.specs.Deciding.{Decides, HaveSaid, call_of};
 ghost use Rattle.ns_ram.specs.declared.read.Read.{Read as AnyRead};
 
 use crate::argument::invocation;
-use crate::call::NewCall;
+use crate::call::CallAtEntry;
 use crate::halt::{Halt, Settled};
 use crate::plan::Plan;
 use msg_args::MsgParam;
@@ -16,7 +16,7 @@ use ns_ram::{Lane, Reads};
 use std::alloc::Global;
 use ta_params::codes::{TEE_ERROR_BAD_PARAMETERS, TEE_ERROR_TARGET_DEAD};
 
-impl NewCall<'_> {
+impl CallAtEntry<'_> {
     /// The tests of an invoke, and what it begins.
     pub fn invoke_command(
         &self,

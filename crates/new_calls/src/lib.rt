@@ -34,7 +34,7 @@
 //! | the head | `read (take_bytes at.addr 32)`, `head_at` | `reads.take_bytes(..)`, `head_in` |
 //! | the count, the parameters and the area, or EBADADDR | `need (has_argument at ..) ebadaddr` | `if !at.has_argument(&head)` |
 //! | the command, or EBADCMD | `known (command_of ..) ebadcmd` | `let Some(command) = command_of(head.cmd) else` |
-//! | the command's tests | `commands`, `taken_by` | `NewCall::command`, `NewCall::plan` |
+//! | the command's tests | `commands`, `taken_by` | `CallAtEntry::command`, `CallAtEntry::plan` |
 //! | the parameters' attributes | `parameters` | `parameters`, with `params_in` |
 //! | open: the shape | `known (opening params)` | `opening` of `wanted.rt` |
 //! | open: the application | `known (app_of c.boot wanted.uuid)` | `self.setup.application(&wanted.uuid)` |
@@ -91,7 +91,7 @@ mod session;
 mod unregister;
 mod wanted;
 
-pub use call::NewCall;
+pub use call::CallAtEntry;
 pub use decided::{Decided, Found};
 pub use entered::Entered;
 pub use entering::{lowest_free, new_call};

@@ -9,7 +9,7 @@ ghost use Rattle.new_calls.specs.Deciding.{Decides, HaveSaid, call_of};
 ghost use Rattle.new_calls.specs.Faults.{open_fault};
 ghost use Rattle.ns_ram.specs.declared.read.Read.{Read as AnyRead};
 
-use crate::call::NewCall;
+use crate::call::CallAtEntry;
 use crate::halt::{Halt, Settled};
 use crate::plan::Plan;
 use crate::wanted::{Wanted, opening};
@@ -22,7 +22,7 @@ use ta_params::codes::{
     TEE_ERROR_TARGET_DEAD,
 };
 
-impl NewCall<'_> {
+impl CallAtEntry<'_> {
     /// The tests of an open, and what it begins.
     pub fn open_session(&self, alloc: Global, lane: &Lane, reads: &mut Reads) -> Result<Plan, Halt>
         requires { HasFreePages self.now.setup.now self.now.tables.now }

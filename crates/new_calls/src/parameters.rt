@@ -7,7 +7,7 @@ ghost use Rattle.new_calls.specs.Deciding.{ComesTo, call_of, copies_or};
 ghost use Rattle.ns_ram.specs.Reader.{over_lane};
 
 use crate::argument::params_in;
-use crate::call::NewCall;
+use crate::call::CallAtEntry;
 use crate::halt::{Halt, Settled};
 use arrayvec::ArrayVec;
 use base::NoMemory;
@@ -17,7 +17,7 @@ use param_copy::{CopyFault, TakenParams, take_params};
 use std::alloc::Global;
 use ta_params::codes::TEE_ERROR_BAD_PARAMETERS;
 
-impl NewCall<'_> {
+impl CallAtEntry<'_> {
     /// The parameters, of which each has to have a valid attribute.
     pub(crate) fn parameters(
         &self,

@@ -11,7 +11,7 @@ ghost use Rattle.ns_ram.specs.declared.read.Read.{Read as AnyRead};
 ghost use Rattle.shm_registry.specs.Pieces.{IsBuffer};
 
 use crate::argument::registering;
-use crate::call::NewCall;
+use crate::call::CallAtEntry;
 use crate::halt::{Halt, Settled};
 use crate::plan::Plan;
 use base::{NoMemory, Sequence};
@@ -42,7 +42,7 @@ fn pages_touched(param: &MsgParam) -> u128
     (u128::from(offset_in(param)) + u128::from(param.q) + 4095) / 4096
 }
 
-impl NewCall<'_> {
+impl CallAtEntry<'_> {
     /// The tests of a register, and what it changes.
     pub fn register_memory(
         &self,

@@ -5,13 +5,13 @@ ghost use Rattle.kernel_state.specs.Setup.{application_of, booted_of_setup};
 ghost use Rattle.kernel_state.specs.Tables.{instance_of};
 ghost use Rattle.new_calls.specs.Deciding.{call_of};
 
-use crate::call::NewCall;
+use crate::call::CallAtEntry;
 use base::NoMemory;
 use kernel_state::Application;
 use session_table::Session;
 use ta_instances::Instance;
 
-impl NewCall<'_> {
+impl CallAtEntry<'_> {
     /// The session that the argument names, opened by the caller, with its instance.
     pub(crate) fn named_session(&self) -> Option<(Session, &Instance)>
         ensures { MatchOption result

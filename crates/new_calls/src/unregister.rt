@@ -5,14 +5,14 @@ ghost use Rattle.new_calls.specs.Applying.{CanApply};
 ghost use Rattle.new_calls.specs.Deciding.{Decides, call_of};
 
 use crate::argument::unregistering;
-use crate::call::NewCall;
+use crate::call::CallAtEntry;
 use crate::halt::{Halt, Settled};
 use crate::plan::Plan;
 use ns_ram::{Lane, Reads};
 use std::alloc::Global;
 use ta_params::codes::{TEE_ERROR_BAD_PARAMETERS, TEE_ERROR_BUSY};
 
-impl NewCall<'_> {
+impl CallAtEntry<'_> {
     /// The tests of an unregister, and what it changes.
     pub fn unregister_memory(
         &self,

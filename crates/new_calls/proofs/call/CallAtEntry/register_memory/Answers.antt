@@ -1,5 +1,5 @@
 use Rattle.std.proofs.Common.{sym}
-use Rattle.new_calls.proofs.call.NewCall.register_memory.Goals as goal
+use Rattle.new_calls.proofs.call.CallAtEntry.register_memory.Goals as goal
 
 pub returns-clause-decides : goal.returns-clause-decides
 returns-clause-decides c =

@@ -6,7 +6,7 @@ use Rattle.param_copy.specs.Outcome.{copies_in}
 use Rattle.new_calls.specs.Deciding.{call_of}
 use Rattle.new_calls.proofs.Commands.{invoke_dead, invoke_passes, invoke_uncopied, invoke_unnamed, passing}
 use Rattle.new_calls.proofs.Naming.{begins_there, named_kept}
-use Rattle.new_calls.proofs.call.NewCall.invoke_with.Goals as goal
+use Rattle.new_calls.proofs.call.CallAtEntry.invoke_with.Goals as goal
 
 pub returns-in_default-clause-decides : goal.returns-in_default-clause-decides
 returns-in_default-clause-decides c before said =

@@ -1,4 +1,4 @@
-use Rattle.new_calls.proofs.call.NewCall.invoke_command.Goals as goal
+use Rattle.new_calls.proofs.call.CallAtEntry.invoke_command.Goals as goal
 
 pub returns-clause-decides : goal.returns-clause-decides
 returns-clause-decides c =

@@ -8,7 +8,7 @@ use Rattle.param_copy.specs.Outcome.{copies_in}
 use Rattle.new_calls.proofs.Commands.{open_allowed, open_passes, open_refused, open_uncopied, open_unfound}
 use Rattle.new_calls.specs.Argument.{opening_of}
 use Rattle.new_calls.specs.Deciding.{call_of}
-use Rattle.new_calls.proofs.call.NewCall.open_wanted.Goals as goal
+use Rattle.new_calls.proofs.call.CallAtEntry.open_wanted.Goals as goal
 
 pub returns-in_default-clause-decides : goal.returns-in_default-clause-decides
 returns-in_default-clause-decides c before said =

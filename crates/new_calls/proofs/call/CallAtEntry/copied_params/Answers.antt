@@ -3,7 +3,7 @@ use Rattle.param_copy.specs.Outcome.{copies_in}
 use Rattle.param_copy.specs.declared.fault.CopyFault.TheVariants.{TooLong, Cookie, Range, Page}
 use Rattle.new_calls.proofs.Cookies.{cookies_kept}
 use Rattle.new_calls.proofs.Steps.{with_fault, without_fault}
-use Rattle.new_calls.proofs.call.NewCall.copied_params.Goals as goal
+use Rattle.new_calls.proofs.call.CallAtEntry.copied_params.Goals as goal
 
 pub returns-in_ok-boxed-in-Ok-clause-copied : goal.returns-in_ok-boxed-in-Ok-clause-copied
 returns-in_ok-boxed-in-Ok-clause-copied c = λ faulty.

@@ -4,7 +4,7 @@ use Rattle.kernel_model.specs.Sessions.{has_session}
 use Rattle.kernel_state.specs.Setup.{application_of}
 use Rattle.new_calls.proofs.Sharing.{has_counted, shared_number}
 use Rattle.new_calls.specs.Deciding.{call_of}
-use Rattle.new_calls.proofs.call.NewCall.is_taken.Goals as goal
+use Rattle.new_calls.proofs.call.CallAtEntry.is_taken.Goals as goal
 
 pub returns-in-Some : goal.returns-in-Some
 returns-in-Some c =

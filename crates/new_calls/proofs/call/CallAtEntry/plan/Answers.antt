@@ -1,7 +1,7 @@
 use Rattle.new_calls.proofs.Coming.{taken_at_end, taken_by_test}
 use Rattle.new_calls.specs.Commands.{tests_of}
 use Rattle.new_calls.specs.Deciding.{call_of, settled_of, taken_of}
-use Rattle.new_calls.proofs.call.NewCall.plan.Goals as goal
+use Rattle.new_calls.proofs.call.CallAtEntry.plan.Goals as goal
 
 pub returns-in-Ok-clause-decides : goal.returns-in-Ok-clause-decides
 returns-in-Ok-clause-decides c =

@@ -3,7 +3,7 @@ use Rattle.std.specs.Option.{option_map}
 use Rattle.kernel_state.specs.Tables.{instance_of}
 use Rattle.new_calls.specs.Deciding.{call_of}
 use Rattle.new_calls.proofs.Naming.{instance_at, named_found, named_lost}
-use Rattle.new_calls.proofs.call.NewCall.named_session.Goals as goal
+use Rattle.new_calls.proofs.call.CallAtEntry.named_session.Goals as goal
 
 pub returns-in_default : goal.returns-in_default
 returns-in_default c =

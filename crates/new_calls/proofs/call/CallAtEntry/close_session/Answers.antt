@@ -1,7 +1,7 @@
 use Rattle.kernel_state.specs.Tables.{instance_of}
 use Rattle.new_calls.specs.Deciding.{call_of}
 use Rattle.new_calls.proofs.Naming.{named_kept}
-use Rattle.new_calls.proofs.call.NewCall.close_session.Goals as goal
+use Rattle.new_calls.proofs.call.CallAtEntry.close_session.Goals as goal
 
 pub app_on-requires : goal.app_on-requires
 app_on-requires c =

@@ -1,7 +1,7 @@
 use Rattle.kernel_model.specs.NewCall.{listed_pages}
 use Rattle.new_calls.proofs.Buffers.{walked_buffer}
 use Rattle.new_calls.proofs.Steps.{with_fault, without_fault}
-use Rattle.new_calls.proofs.call.NewCall.listed_pages.Goals as goal
+use Rattle.new_calls.proofs.call.CallAtEntry.listed_pages.Goals as goal
 
 pub returns-in-Ok-clause-walked : goal.returns-in-Ok-clause-walked
 returns-in-Ok-clause-walked c = λ faulty.

@@ -3,7 +3,7 @@ use Rattle.kernel_model.specs.Codes.{bad_parameters}
 use Rattle.kernel_model.specs.NewCall.{settles}
 use Rattle.new_calls.proofs.Commands.{register_passes, register_refused, register_unpaged}
 use Rattle.new_calls.specs.Deciding.{call_of}
-use Rattle.new_calls.proofs.call.NewCall.register_buffer.Goals as goal
+use Rattle.new_calls.proofs.call.CallAtEntry.register_buffer.Goals as goal
 
 pub returns-in-Some-clause-decides : goal.returns-in-Some-clause-decides
 returns-in-Some-clause-decides c before said =

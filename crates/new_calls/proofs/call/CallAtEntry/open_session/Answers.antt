@@ -1,4 +1,4 @@
-use Rattle.new_calls.proofs.call.NewCall.open_session.Goals as goal
+use Rattle.new_calls.proofs.call.CallAtEntry.open_session.Goals as goal
 
 pub returns-clause-decides : goal.returns-clause-decides
 returns-clause-decides c =

@@ -1,6 +1,6 @@
 use Rattle.std.proofs.Common.{sym, ◌∙◌}
 use Rattle.new_calls.proofs.Pins.{pinned_as_argument}
-use Rattle.new_calls.proofs.call.NewCall.is_pinned.Goals as goal
+use Rattle.new_calls.proofs.call.CallAtEntry.is_pinned.Goals as goal
 
 pub returns-then-eq : goal.returns-then-eq
 returns-then-eq c =

@@ -1,4 +1,4 @@
-use Rattle.new_calls.proofs.call.NewCall.command.Goals as goal
+use Rattle.new_calls.proofs.call.CallAtEntry.command.Goals as goal
 
 pub returns-in-CloseSession-clause-decides : goal.returns-in-CloseSession-clause-decides
 returns-in-CloseSession-clause-decides c = rw c.in-CloseSession.is (c.close_session.ensures.decides c.args.lane.now c.args.reads.now)
