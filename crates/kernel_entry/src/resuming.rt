@@ -48,6 +48,7 @@ fn is_marked(besides: &[Cancellation], slot: u8) -> bool
 
 /// Resumes the call that the registers name: it is out with this processor, and has come as far as its resume takes
 /// it.
+#[inline(always)]
 fn go_on(parts: &mut Parts, regs: &Regs, cpu: u8, decided: Decided) -> Box<Cont<Pages>>
     requires { CanGoOn parts.old regs.now.a decided }
     ensures slots { parts.new.slots ≡ slice_set parts.old.slots (thread_in regs.now.a) (Active cpu) }
