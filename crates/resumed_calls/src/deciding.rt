@@ -33,6 +33,7 @@ pub struct Decided {
 
 /// Decides what a resume with these registers is. None where it is for no call: the answer is ERESUME then. All that it
 /// reads is listed, and all memory of a resume is taken here; at want of memory nothing is listed.
+#[inline(always)]
 pub fn decide(
     alloc: Global,
     setup: &Setup,
