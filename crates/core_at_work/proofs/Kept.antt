@@ -11,6 +11,7 @@ use Rattle.core_at_work.specs.Outgoing.{HaveTheirOwn}
 use Rattle.core_at_work.proofs.InsidesMoved.{insides_entered, insides_left}
 use Rattle.core_at_work.proofs.Stand.{Outgoing, insides_of}
 use Rattle.event_journal.specs.declared.event.Event.{Event}
+use Rattle.kernel_entry.specs.Entering.{HasMoreRoom}
 use Rattle.kernel_model.specs.Application.{Booted}
 use Rattle.kernel_model.specs.History.{is_outside, kernel_after}
 use Rattle.kernel_model.specs.Kernel.{Outside}
@@ -19,10 +20,12 @@ use Rattle.kernel_state.specs.Entering.{Coming, Enters, HasEntered, IsAsBefore, 
 use Rattle.kernel_state.specs.Laws.{ChangedByOthers, CoreEntry, CoreExit}
 use Rattle.kernel_state.specs.Leaving.{CanLeave, HasLeft}
 use Rattle.kernel_state.specs.Meaning.{booted_of, events_of, kernel_of}
+use Rattle.kernel_state.specs.Setup.{booted_of_setup}
 use Rattle.kernel_state.specs.Work.{IsRanOf}
 use Rattle.kernel_state.specs.declared.enter_refusal.EnterRefusal.{EnterRefusal}
 use Rattle.kernel_state.specs.declared.enter_refusal.EnterRefusal.TheVariants.{Full, Memory}
 use Rattle.kernel_state.specs.declared.kernel_core.Core.{Core}
+use Rattle.kernel_state.specs.declared.parts.Parts.{Parts}
 use Rattle.kernel_state.specs.declared.work.Ran.{Ran}
 use Rattle.kernel_state.specs.declared.work.Work.{Work}
 use Rattle.kernel_state.proofs.CoreEvents.{journals_legal, some_kernel}
@@ -182,6 +185,15 @@ pub refused_as_before : (old new : Core) (coming : Coming) (lane : List ℕ) (wh
     Enters old new coming lane (Err why) → IsAsBefore old new
 refused_as_before old new coming lane (Full copied more) is = is.0
 refused_as_before old new coming lane Memory is = is
+
+-- ---- with more room
+
+pub with_room : (old new : Core) → HasMoreRoom old.parts new.parts → IsAsBefore old new
+with_room old new more = record {
+  boot = ap (λ (parts : Parts). booted_of_setup parts.setup) more.stays;
+  terms = ap (λ (parts : Parts). parts.setup.terms) more.stays;
+  events = more.events;
+}
 
 -- ---- at first
 

@@ -1,10 +1,11 @@
 //! What is done with a core at work: its processors come in and go out.
-ghost use Rattle.std.specs.Prelude.{◌≡◌, ◌≤◌, ◌^◌, ◌↔◌, [], IfOk, IsSomeAnd, IsTrue, None, Some, replicate};
+ghost use Rattle.std.specs.Prelude.{◌≡◌, ◌≤◌, ◌^◌, ◌↔◌, ℕ, List, [], IfOk, IsSomeAnd, IsTrue, None, Some, replicate};
 ghost use Rattle.std.specs.Option.{option_map};
 ghost use Rattle.core_at_work.specs.Booting.{IsApart};
 ghost use Rattle.core_at_work.specs.Insides.{IsInside, IsOutside, insides};
 ghost use Rattle.core_at_work.specs.Panics.{panic_of};
-ghost use Rattle.core_at_work.specs.Working.{ComesIn, GoesOut, outgoing_of};
+ghost use Rattle.core_at_work.specs.Working.{ComesIn, GoesOut, HasComeIn, SameOutgoing, outgoing_of};
+ghost use Rattle.kernel_entry.specs.Entering.{HasMoreRoom, IsPrepared, PreparesEntry, WasPrepared};
 ghost use Rattle.kernel_entry.specs.Visiting.{coming_of};
 ghost use Rattle.kernel_model.specs.Application.{booted};
 ghost use Rattle.kernel_state.specs.Booting.{IsWithinLimits};
@@ -18,7 +19,7 @@ use crate::booting::core_on;
 use crate::core_at_work::CoreAtWork;
 use crate::went_out::{WentOut, panic_of};
 use base::NoMemory;
-use kernel_entry::{Visitor, enter};
+use kernel_entry::{Prepared, Visitor, admit, prepare};
 use kernel_exit::leave;
 use kernel_state::{Core, EnterRefusal, Ran, Terms};
 use native_tas::Natives;
@@ -150,7 +151,8 @@ impl CoreAtWork {
         self.is_outside(visitor.cpu) && (1..=MOST_STEPS).contains(&visitor.steps)
     }
 
-    /// A processor comes in over the RAM that it sees, and does its granted steps. Where it is refused the core is as it was.
+    /// A processor comes in over the RAM that it sees, and does its granted steps: its entry is prepared, and it is let in. Where it
+    /// is refused the core is as it was.
     pub fn enter(
         &mut self,
         alloc: Global,
@@ -160,9 +162,35 @@ impl CoreAtWork {
         requires { CanEnter self.old.core (coming_of visitor) }
         ensures { ComesIn self.old self.new visitor lane.now result }
     {
-        let work = enter(alloc, &mut self.core, visitor, lane)?;
-        put(&mut self.outgoing[usize::from(visitor.cpu)], work.run());
+        let prepared = self.prepare(alloc, &visitor, lane)?;
+        self.admit(alloc, visitor, prepared);
         Ok(())
+    }
+
+    /// Prepares an entry over the RAM that its processor sees: what was decided can be read then, and all memory of the entry is
+    /// taken. The core stays as it is, but has more room. Where the entry is refused the core is as it was.
+    pub fn prepare(
+        &mut self,
+        alloc: Global,
+        visitor: &Visitor,
+        lane: &Lane,
+    ) -> Result<Prepared, EnterRefusal>
+        ensures prepares { PreparesEntry self.old.core self.new.core (coming_of visitor.now) lane.now result }
+        ensures room { HasMoreRoom self.old.core.parts self.new.core.parts }
+        ensures others { SameOutgoing self.old self.new }
+    {
+        prepare(alloc, &mut self.core, visitor, lane)
+    }
+
+    /// Lets a processor in for what was prepared for its registers, and does its granted steps. Takes no memory, and can't fail.
+    pub fn admit(&mut self, alloc: Global, visitor: Visitor, prepared: Prepared)
+        requires can { CanEnter self.old.core (coming_of visitor) }
+        requires prepared { WasPrepared self.old.core.parts visitor.regs.a prepared }
+        ensures { (lane : List ℕ) → IsPrepared self.old.core.parts visitor.regs.a lane prepared
+            → HasComeIn self.old self.new visitor lane }
+    {
+        let work = admit(alloc, &mut self.core, visitor, prepared);
+        put(&mut self.outgoing[usize::from(visitor.cpu)], work.run());
     }
 
     /// A processor that is inside goes out, its granted steps done. What it has to say is written to the RAM that it sees. Takes no
