@@ -1,11 +1,16 @@
 -- What doing an event again makes of a core. This project's own.
-use Rattle.std.specs.Prelude.{◌≡◌, List, [], ◌∷◌, ◌++◌, Bool, true, false, Result, Ok, Err}
+use Rattle.std.specs.Prelude.{◌≡◌, List, [], ◌∷◌, ◌++◌, Bool, true, false, Option, None, Some, Result, Ok, Err}
 use Rattle.base.specs.declared.no_memory.NoMemory.{NoMemory}
 use Rattle.audit_model.specs.Verdicts.{IsFaultless}
 use Rattle.event_journal.specs.declared.event.Event.{Event}
+use Rattle.event_journal.specs.declared.event.Event.TheVariants.{Entry}
 use Rattle.journal_replay.specs.declared.replay.Replay.{Replay}
+use Rattle.kernel_entry.specs.Entering.{HasMoreRoom, IsPrepared}
+use Rattle.kernel_entry.specs.declared.preparing.Prepared.{Prepared}
+use Rattle.kernel_entry.specs.declared.visitor.Visitor.{Visitor}
 use Rattle.kernel_model.specs.Application.{Booted}
 use Rattle.kernel_state.specs.Meaning.{booted_of, events_of}
+use Rattle.ns_ram.specs.declared.read.Read.{Read}
 
 -- what the replay's core was booted with
 abbrev pub boot_of : Replay → Booted
@@ -29,3 +34,17 @@ abbrev pub Does : Replay → Replay → Event → Result Bool NoMemory → Type 
 Does old new event (Ok true) = HasDone old new event
 Does old new event (Ok false) = CanBeNext old event → ⊥
 Does old new event (Err error) = Unit {0}
+
+-- ---- an entry, before it is done
+
+-- it is prepared, and reads just this; the core has more room
+pub record HasPrepared (old new : Replay) (visitor : Visitor) (reads : List Read) (prepared : Prepared) : Type 0 where
+  pub room : HasMoreRoom old.at_work.core.parts new.at_work.core.parts
+  pub is : IsPrepared new.at_work.core.parts visitor.regs.a new.lane prepared
+  pub reads_so : prepared.reads ≡ reads
+
+-- by the answer: it is prepared; it can't be next; or memory was wanting
+abbrev pub PreparesNext : Replay → Replay → Visitor → List Read → Result (Option Prepared) NoMemory → Type 0
+PreparesNext old new visitor reads (Ok (Some prepared)) = HasPrepared old new visitor reads prepared
+PreparesNext old new visitor reads (Ok None) = CanBeNext old (Entry visitor.cpu visitor.regs visitor.steps reads) → ⊥
+PreparesNext old new visitor reads (Err error) = Unit {0}

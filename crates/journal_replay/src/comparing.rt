@@ -1,8 +1,7 @@
 //! Whether an event that was done again is that of the journal.
 ghost use Rattle.std.specs.Prelude.{◌≡◌, ◌↔◌, ℕ, List, [], ◌∷◌, ◌++◌, IsTrue};
 ghost use Rattle.event_journal.specs.declared.event.Event.{Event as AnyEvent};
-ghost use Rattle.event_journal.specs.declared.event.Event.TheVariants.{Entry, Exit};
-ghost use Rattle.ns_ram.specs.declared.read.Read.{Read as AnyRead};
+ghost use Rattle.event_journal.specs.declared.event.Event.TheVariants.{Exit};
 ghost use Rattle.smc_abi.specs.declared.regs.Regs.{Regs as AnyRegs};
 
 use event_journal::Event;
@@ -27,7 +26,7 @@ fn is_same_read(one: &Read, other: &Read) -> bool
 }
 
 /// Both lists of reads are the same.
-fn are_same_reads(one: &[Read], other: &[Read]) -> bool
+pub(crate) fn are_same_reads(one: &[Read], other: &[Read]) -> bool
     ensures { IsTrue result ↔ (one.now ≡ other.now) }
 {
     if one.len() != other.len() {
@@ -39,28 +38,6 @@ fn are_same_reads(one: &[Read], other: &[Read]) -> bool
         }
     }
     true
-}
-
-/// An entry has read this.
-fn has_read(event: &Event, reads: &[Read]) -> bool
-    ensures { (cpu steps : ℕ) (regs : AnyRegs) (came : List AnyRead)
-        → event.now ≡ Entry cpu regs steps came → (IsTrue result ↔ (came ≡ reads.now)) }
-{
-    match event {
-        Event::Entry { reads: came, .. } => are_same_reads(came.as_slice(), reads),
-        Event::Exit { .. } => false,
-    }
-}
-
-/// The last event, an entry, has read this.
-pub(crate) fn last_has_read(events: &[Event], reads: &[Read]) -> bool
-    ensures { (before : List AnyEvent) (cpu steps : ℕ) (regs : AnyRegs) (came : List AnyRead)
-        → events.now ≡ before ++ Entry cpu regs steps came ∷ [] → (IsTrue result ↔ (came ≡ reads.now)) }
-{
-    match events.last() {
-        Some(last) => has_read(last, reads),
-        None => false,
-    }
 }
 
 /// An exit has left these registers.

@@ -1,11 +1,12 @@
 //! What is done with a replay: events, one after the other.
-ghost use Rattle.std.specs.Prelude.{◌≡◌, ◌↔◌, ◌≤◌, ◌^◌, [], ◌∷◌, ◌++◌, IfOk, IsTrue, Ok, true};
+ghost use Rattle.std.specs.Prelude.{◌≡◌, ◌↔◌, ◌≤◌, ◌^◌, ℕ, List, [], ◌∷◌, ◌++◌, IfOk, IsTrue, Ok};
 ghost use Rattle.core_at_work.specs.Booting.{IsApart};
 ghost use Rattle.core_at_work.specs.Working.{HasComeIn};
 ghost use Rattle.event_journal.specs.Journal.{copied_bytes};
 ghost use Rattle.event_journal.specs.declared.event.Event.TheVariants.{Entry, Exit};
 ghost use Rattle.journal_replay.specs.Laying.{AreOfOneRam};
-ghost use Rattle.journal_replay.specs.Replaying.{Does, boot_of, done_by};
+ghost use Rattle.journal_replay.specs.Replaying.{Does, HasDone, PreparesNext, boot_of, done_by};
+ghost use Rattle.kernel_entry.specs.Entering.{IsPrepared, WasPrepared};
 ghost use Rattle.kernel_entry.specs.Visiting.{coming_of};
 ghost use Rattle.kernel_model.specs.Application.{booted};
 ghost use Rattle.kernel_state.specs.Booting.{IsWithinLimits};
@@ -13,13 +14,13 @@ ghost use Rattle.kernel_state.specs.Entering.{CanEnter};
 ghost use Rattle.native_tas.specs.Table.{entries};
 ghost use Rattle.ns_ram.specs.Reads.{HoldsReads};
 
-use crate::comparing::{are_same_regs, last_has_read};
+use crate::comparing::{are_same_reads, are_same_regs};
 use crate::laying::lay;
 use crate::replay::Replay;
 use base::NoMemory;
 use core_at_work::CoreAtWork;
 use event_journal::Event;
-use kernel_entry::Visitor;
+use kernel_entry::{Prepared, Visitor};
 use kernel_state::EnterRefusal;
 use native_tas::Natives;
 use ns_ram::{Lane, Read};
@@ -72,7 +73,14 @@ impl Replay {
         if !self.lay_for(&visitor, reads) {
             return Ok(false);
         }
-        self.enter(alloc, visitor, reads)
+        let ready = self.prepare(alloc, &visitor, reads)?;
+        match ready {
+            Some(prepared) => {
+                self.admit(alloc, visitor, prepared);
+                Ok(true)
+            }
+            None => Ok(false),
+        }
     }
 
     /// Whether this visitor can come in. Where it can, RAM has what it reads from then on, if that can be of one RAM.
@@ -88,27 +96,40 @@ impl Replay {
         true
     }
 
-    /// A visitor that can come in does, over RAM that has what it reads, and does its granted steps; whether it has read that.
-    pub fn enter(
+    /// Prepares the entry of a visitor over RAM that has what it reads, if that can be of one RAM: what was decided can be read then.
+    /// `None` where it can't have come next. Nothing is done so far.
+    pub fn prepare(
         &mut self,
         alloc: Global,
-        visitor: Visitor,
+        visitor: &Visitor,
         reads: &[Read],
-    ) -> Result<bool, NoMemory>
-        requires can { CanEnter self.old.at_work.core (coming_of visitor) }
+    ) -> Result<Option<Prepared>, NoMemory>
         requires laid { AreOfOneRam reads.now → HoldsReads self.old.lane reads.now }
-        requires few { copied_bytes (done_by self.old ++ Entry visitor.cpu visitor.regs visitor.steps reads.now ∷ []) ≤ 2 ^ 28 }
-        ensures does { Does self.old self.new (Entry visitor.cpu visitor.regs visitor.steps reads.now) result }
-        ensures came { result ≡ Ok true → HasComeIn self.old.at_work self.new.at_work visitor self.old.lane }
+        requires few { copied_bytes (done_by self.old ++ Entry visitor.now.cpu visitor.now.regs visitor.now.steps reads.now ∷ []) ≤ 2 ^ 28 }
+        ensures { PreparesNext self.old self.new visitor.now reads.now result }
     {
-        match self.at_work.enter(alloc, visitor, &self.lane) {
-            Ok(()) => {
-                let events = self.at_work.core.journal().as_slice();
-                Ok(last_has_read(events, reads))
+        match self.at_work.prepare(alloc, visitor, &self.lane) {
+            Ok(prepared) => {
+                if are_same_reads(prepared.reads.as_slice(), reads) {
+                    Ok(Some(prepared))
+                } else {
+                    Ok(None)
+                }
             }
-            Err(EnterRefusal::Full { .. }) => Ok(false),
+            Err(EnterRefusal::Full { .. }) => Ok(None),
             Err(EnterRefusal::Memory) => Err(NoMemory),
         }
+    }
+
+    /// Lets a visitor that can come in do so, as it was prepared, and does its granted steps. Takes no memory, and can't fail.
+    pub fn admit(&mut self, alloc: Global, visitor: Visitor, prepared: Prepared)
+        requires can { CanEnter self.old.at_work.core (coming_of visitor) }
+        requires prepared { WasPrepared self.old.at_work.core.parts visitor.regs.a prepared }
+        ensures done { HasDone self.old self.new (Entry visitor.cpu visitor.regs visitor.steps prepared.reads) }
+        ensures came { (lane : List ℕ) → IsPrepared self.old.at_work.core.parts visitor.regs.a lane prepared
+            → HasComeIn self.old.at_work self.new.at_work visitor lane }
+    {
+        self.at_work.admit(alloc, visitor, prepared);
     }
 
     /// A processor goes out with these registers.
