@@ -4,6 +4,7 @@ use Rattle.event_journal.specs.Journal.{copied_bytes}
 use Rattle.event_journal.specs.declared.event.Event.{Event}
 use Rattle.event_journal.specs.declared.event.Event.TheVariants.{Exit}
 use Rattle.kernel_model.specs.Application.{Booted}
+use Rattle.kernel_state.specs.Entering.{IsAsBefore}
 use Rattle.kernel_state.specs.Leaving.{HasLeft}
 use Rattle.kernel_state.specs.Meaning.{booted_of, events_of}
 use Rattle.kernel_state.specs.declared.kernel_core.Core.{Core}
@@ -49,6 +50,12 @@ pub record AreKept {N L : Type 0} (meaning : Meaning N L) (notes : N) : Type 0 w
 pub record Goes (old new : Core) (event : Event) : Type 0 where
   pub boot : booted_of new ≡ booted_of old
   pub events : events_of new ≡ events_of old ++ event ∷ []
+
+-- it was noted of an event that was done once there was more room for it
+pub record IsNotedWithRoom {N L : Type 0} (meaning : Meaning N L) (old new : Core) (before after : N) (event : Event) : Type 0 where
+  pub mid : Core
+  pub room : IsAsBefore old mid
+  pub noted : IsNoted meaning mid new before after event
 
 -- a processor has gone out with what it carried, and that is noted
 pub record IsExitNoted {N L : Type 0} (meaning : Meaning N L) (old new : Core) (before after : N) (cpu : ℕ)

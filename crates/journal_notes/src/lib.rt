@@ -1,7 +1,7 @@
 //! What is noted of somebody as the events of a journal are done again: of a session, or of the sessions of an application.
 //!
-//! Before an entry is done again, what it is for them is read off the core; once the core has done it, it is noted, and so is an
-//! exit. The list of what happened to them, each beside what they were answered, is taken event by event, so that no journal's
+//! Each entry is decided once: what it is for them is read off what was decided, before it is done again; once the core has done
+//! it, it is noted, and so is an exit. The list of what happened to them, each beside what they were answered, is taken event by event, so that no journal's
 //! whole list need be kept.
 //!
 //! `logged` has logs, `notes` what notes can do, `noting` does an event again and notes it, and `reading` reads a log event by
@@ -17,8 +17,8 @@
 //!   answers with what it adds to the log, or that no legal and steady history goes on with it (`Reads`), or want of
 //!   memory.
 //! - `read_all` gives the whole log of a journal that begins a legal and steady history, or tells want of memory.
-//! - Both ask that the reads of all entries stay within the read limit. What an entry is for them is told before it,
-//!   and noted once it is done.
+//! - Both ask that the reads of all entries stay within the read limit. What an entry is for them is told once
+//!   it is prepared, and noted once it is done.
 //! - What the notes of a type are by an event is promised by that type's own methods: `isolation` has a session's and
 //!   `instance_groups` a group's, and neither does an event again by itself.
 #![tactic(auto)]

@@ -4,6 +4,7 @@ ghost use Rattle.core_at_work.specs.Insides.{IsInside};
 ghost use Rattle.event_journal.specs.declared.event.Event.{Event as AnyEvent};
 ghost use Rattle.event_journal.specs.declared.event.Event.TheVariants.{Entry};
 ghost use Rattle.journal_notes.specs.Meaning.{AreKept, Goes, HasTaken, IsExitNoted, IsNoted, Meaning, same_subject};
+ghost use Rattle.kernel_entry.specs.Entering.{IsPrepared, WasPrepared};
 ghost use Rattle.kernel_entry.specs.Visiting.{coming_of};
 ghost use Rattle.kernel_state.specs.Entering.{HasEntered};
 ghost use Rattle.kernel_state.specs.Leaving.{CanLeave};
@@ -16,7 +17,7 @@ ghost use Rattle.ns_ram.specs.declared.read.Read.{Read as AnyRead};
 use crate::logged::BoxedEntry;
 use base::NoMemory;
 use core_at_work::CoreAtWork;
-use kernel_entry::Visitor;
+use kernel_entry::{Prepared, Visitor};
 use kernel_state::{Core, Ran};
 use ns_ram::Lane;
 use smc_abi::Regs;
@@ -24,7 +25,7 @@ use std::alloc::Global;
 
 /// What is noted of somebody as events are done again on a core.
 pub trait EventNotes {
-    /// What an entry is for them, as far as it can be told before it.
+    /// What an entry is for them, as far as it can be told before it is done.
     type Arrival: Drop;
 
     /// What happens to them.
@@ -39,15 +40,17 @@ pub trait EventNotes {
     // What an entry with these registers is for them, over this lane, by the core as it is before.
     ghost IsArrival: { Self → AnyCore → List ℕ → List ℕ → Self.Arrival → Type 0 };
 
-    /// What an entry with these registers is for them, by the core and RAM before it.
+    /// What an entry with these registers is for them, which is prepared and not yet done, by what was decided and the core.
     fn arrival(
         &self,
         alloc: Global,
         core: &Core,
         regs: &Regs,
-        lane: &Lane,
+        prepared: &Prepared,
     ) -> Result<Self::Arrival, NoMemory>
-        ensures { IfOk result (IsArrival self.now core.now regs.now.a lane.now) };
+        requires { WasPrepared core.now.parts regs.now.a prepared.now }
+        ensures { (lane : List ℕ) → IsPrepared core.now.parts regs.now.a lane prepared.now
+            → IfOk result (IsArrival self.now core.now regs.now.a lane) };
 
     /// Notes that a processor has come in, for which the entry was this, and which goes out with that. They were those of the
     /// events that some core had done before it.
