@@ -6,31 +6,34 @@ use Rattle.std.proofs.Math.Logic.{∥∥₁_elim}
 use Rattle.std.proofs.Props.{props}
 use Rattle.std.proofs.lemmas.Option.{slice_get_within}
 use Rattle.base.specs.NumberMap.{get}
-use Rattle.isolation.specs.Arriving.{IsArrivalBy, IsArrivalFrom, IsArrivalIn, IsBackIn, IsNew, NamesApp, arrival_as, arrival_of, back_as}
+use Rattle.isolation.specs.Arriving.{IsArrival, IsArrivalBy, IsArrivalIn, IsBack, IsBackIn, IsNew, NamesApp, arrival_as, arrival_of, back_as}
 use Rattle.isolation.specs.Arriving.{event_in, opens_in, seen_then}
-use Rattle.isolation.specs.Calls.{IsCallBy, IsNewCall, call_by}
+use Rattle.isolation.specs.Calls.{planned_call}
 use Rattle.isolation.specs.declared.calls.NewCall.{NewCall}
+use Rattle.isolation.specs.declared.entering.Arrival.{Arrival}
 use Rattle.isolation.specs.declared.entering.Arrival.TheVariants as arrival
 use Rattle.isolation.specs.declared.notes.Back.{Back as BackWith}
 use Rattle.isolation.proofs.Arrived.{input_is}
+use Rattle.isolation.proofs.NewCalls.{planned_free}
 use Rattle.isolation.proofs.Plans.{plan_event_is, plan_names}
 use Rattle.job_model.specs.declared.call_kind.CallKind.{CallKind}
 use Rattle.job_model.specs.declared.call_kind.CallKind.TheVariants as kind
-use Rattle.kernel_entry.proofs.Decisions.{resume_refused}
 use Rattle.kernel_entry.proofs.Following.{call_found}
-use Rattle.kernel_entry.specs.Resuming.{IsSuspended}
-use Rattle.kernel_entry.specs.Resuming.{goes_on_as}
-use Rattle.kernel_model.specs.Argument.{client_in, is_new, reg, thread_in}
+use Rattle.kernel_entry.specs.Deciding.{CanBegin, decision_as, goes_on_in}
+use Rattle.kernel_entry.specs.Entering.{IsPrepared}
+use Rattle.kernel_entry.specs.Resuming.{IsSuspended, goes_on_as}
+use Rattle.kernel_entry.specs.declared.deciding.EntryDecision.TheVariants as decision
+use Rattle.kernel_entry.specs.declared.deciding.PlannedCall.{PlannedCall}
+use Rattle.kernel_entry.specs.declared.preparing.Prepared.{Prepared}
+use Rattle.kernel_model.specs.Argument.{client_in, thread_in}
 use Rattle.kernel_model.specs.Begin.{Opener, has_pages_for, opens_new}
-use Rattle.kernel_model.specs.Application.{Application, Booted}
-use Rattle.kernel_model.specs.Codes.{bad_parameters, eresume, out_of_memory, target_dead, unknown_function}
+use Rattle.kernel_model.specs.Application.{Application}
+use Rattle.kernel_model.specs.Codes.{bad_parameters, eresume, out_of_memory, target_dead}
 use Rattle.kernel_model.specs.Decision as model
-use Rattle.kernel_model.specs.Entry.{decision_of}
 use Rattle.kernel_model.specs.Given.{Given, Nothing, Buffer, NoBuffer, Reply, call_given, given_to}
 use Rattle.kernel_model.specs.Instances.{is_held}
-use Rattle.kernel_model.specs.Kernel.{CallPhase, Runs, Asks, Waits, Ends, Active, Free, Instance, Kernel, PendingCall, Progress, Suspended, Tables, ThreadSlot}
-use Rattle.kernel_model.specs.NewCall.{new_call}
-use Rattle.kernel_model.specs.Resume.{Resumed, app_of_call, begins, begins_in, begins_open, call_resumed_by, ends_with, goes_on, is_without_buffer, onward_in, onward_of, phase_seen, resume, resumed_call, sees, sleeps_on, suspended_for, tested_again, who_resumes}
+use Rattle.kernel_model.specs.Kernel.{CallPhase, Runs, Asks, Waits, Ends, Active, Free, Instance, Kernel, PendingCall, Progress, Suspended, ThreadSlot}
+use Rattle.kernel_model.specs.Resume.{Resumed, app_of_call, begins, begins_in, begins_open, call_resumed_by, ends_with, goes_on, is_without_buffer, onward_in, phase_seen, resumed_call, sees, sleeps_on, suspended_for, tested_again, who_resumes}
 use Rattle.kernel_model.proofs.Parts.{if-both, map_or-both}
 use Rattle.kernel_state.specs.Calls.{IsCall}
 use Rattle.kernel_state.specs.Replay.{Replays}
@@ -38,9 +41,8 @@ use Rattle.kernel_state.specs.Setup.{booted_of_setup}
 use Rattle.kernel_state.specs.StandsFor.{StandsFor}
 use Rattle.kernel_state.specs.Tables.{tables_of}
 use Rattle.kernel_state.specs.declared.parts.Parts.{Parts}
-use Rattle.new_calls.specs.Deciding.{taken_of}
+use Rattle.new_calls.specs.Deciding.{call_with, taken_of}
 use Rattle.ns_ram.proofs.ReaderLaws.{over_lane-reading}
-use Rattle.ns_ram.specs.Reader.{Reader, over_lane}
 use Rattle.ns_ram.specs.declared.read.Read.{Read}
 use Rattle.own_model.specs.declared.own_event.OwnEvent.{OwnEvent}
 use Rattle.resumed_calls.proofs.Taking.{decision_taken, slot_resumed}
@@ -49,52 +51,22 @@ use Rattle.resumed_calls.specs.Giving.{given_as}
 use Rattle.resumed_calls.specs.declared.deciding.Decided.{Decided}
 use Rattle.rpc_cont.specs.declared.cont.Cont.{Cont}
 use Rattle.session_table.specs.declared.session.Session.{Session}
-use Rattle.smc_abi.specs.Call.{call_of}
-use Rattle.smc_abi.specs.FastAnswer.{fast_answer_of}
-use Rattle.smc_abi.specs.declared.call.Call.{Call}
-use Rattle.smc_abi.specs.declared.call.Call.TheVariants.{Fast, Resume, Unknown, WithArg, WithRegdArg, WithRpcArg}
-use Rattle.smc_abi.specs.declared.call.FastCall.{FastCall}
 use Rattle.ta_params.specs.declared.copied_params.CopiedParams.{CopiedParams}
 
--- ---- calls whose answer is fixed by their registers
+-- ---- what is prepared
 
--- nothing happens to a session
-pub answered_fast : (boot : Booted) (k : Kernel) (regs lane : List ℕ) (call : FastCall) → call_of (reg regs 0) ≡ Fast call
-    → IsArrivalFrom k regs lane (decision_of boot k regs (call_of (reg regs 0))) arrival.Nothing
-answered_fast boot k regs lane call is =
-    let found : IsArrivalFrom k regs lane (decision_of boot k regs (Fast call)) arrival.Nothing = record {
-      decision = model.Answers (fast_answer_of call regs boot.threads);
-      reads = [];
-      decides = refl;
-      is = tt;
-    } in
-    subst (λ (named : Call). IsArrivalFrom k regs lane (decision_of boot k regs named) arrival.Nothing) (sym is) found
-
-pub answered_unknown : (boot : Booted) (k : Kernel) (regs lane : List ℕ) → call_of (reg regs 0) ≡ Unknown
-    → IsArrivalFrom k regs lane (decision_of boot k regs (call_of (reg regs 0))) arrival.Nothing
-answered_unknown boot k regs lane is =
-    let found : IsArrivalFrom k regs lane (decision_of boot k regs Unknown) arrival.Nothing = record {
-      decision = model.Answers unknown_function;
-      reads = [];
-      decides = refl;
-      is = tt;
-    } in
-    subst (λ (named : Call). IsArrivalFrom k regs lane (decision_of boot k regs named) arrival.Nothing) (sym is) found
+-- the kernel decides so, by which it is this
+pub arrives : (parts : Parts) (k : Kernel) (regs lane : List ℕ) (prepared : Prepared) (came : Arrival) → IsPrepared parts regs lane prepared
+    → StandsFor parts k → IsArrivalBy k regs prepared.reads came (decision_as parts k regs prepared.decision)
+    → IsArrival (booted_of_setup parts.setup) k regs lane came
+arrives parts k regs lane prepared came is stands by = record {
+  decision = decision_as parts k regs prepared.decision;
+  reads = prepared.reads;
+  decides = is.decides k stands;
+  is = by;
+}
 
 -- ---- new calls
-
--- each of the three is decided alike
-pub decided_new : (boot : Booted) (k : Kernel) (regs : List ℕ) (call : Call) → call_of (reg regs 0) ≡ call → is_new call ≡ true
-    → decision_of boot k regs (call_of (reg regs 0)) ≡ new_call boot k regs
-decided_new boot k regs call is new = ap (decision_of boot k regs) is ∙ by_call call new
-  where
-    by_call : (named : Call) → is_new named ≡ true → decision_of boot k regs named ≡ new_call boot k regs
-    by_call (Fast fast) one = absurd cc
-    by_call WithArg one = refl
-    by_call WithRpcArg one = refl
-    by_call WithRegdArg one = refl
-    by_call Resume one = absurd cc
-    by_call Unknown one = absurd cc
 
 event_in_slot : (k : Kernel) (regs : List ℕ) (reads : List Read) (slot : ℕ) (call : PendingCall) (opens : Option (List ℕ))
     (came : Option OwnEvent) → IsNew k slot call came
@@ -112,23 +84,16 @@ new_in_slot k regs reads slot call None is names = is
 new_in_slot k regs reads slot call (Some one) is names =
     event_in_slot k regs reads slot call (opens_in one) (event_in one) is names
 
--- by what the kernel decided of it
-new_by : (k : Kernel) (regs : List ℕ) (reads : List Read) (came : Option NewCall) (decision : model.Decision) → IsCallBy k came decision
-    → IsArrivalBy k regs reads (arrival_as came) decision
-new_by k regs reads came (model.Answers answer) is = tt
-new_by k regs reads came (model.Takes slot taken) is =
-    let c = is.call in
-    let planned = call_by c.head.func (is_some c.area) is.plan in
-    subst (λ (o : Option NewCall). IsArrivalIn k regs reads slot taken.call (arrival_as o)) (sym is.is)
-    (subst (λ (t : model.Taken). IsArrivalIn k regs reads slot t.call (arrival_as planned)) (sym is.taken_for)
-    (new_in_slot k regs reads slot (taken_of c is.plan).call planned
-    (record { free = is.free; event = λ session. plan_event_is session c is.plan is.can })
-    (plan_names c is.plan c.head.func (is_some c.area))))
-
-pub new_arrives : (k : Kernel) (regs lane : List ℕ) (reader : Reader model.Decision) (came : Option NewCall)
-    → IsNewCall k lane reader came → IsArrivalFrom k regs lane reader (arrival_as came)
-new_arrives k regs lane reader came it =
-    record { decision = it.decision; reads = it.reads; decides = it.decides; is = new_by k regs it.reads came it.decision it.is }
+-- by what it is planned for
+pub begun_by : (parts : Parts) (k : Kernel) (regs : List ℕ) (reads : List Read) (planned : PlannedCall)
+    → CanBegin parts planned.entered planned.plan → StandsFor parts k
+    → (let taken = taken_of (call_with (booted_of_setup parts.setup) (tables_of parts.tables) planned.entered) planned.plan in
+    IsArrivalIn k regs reads planned.entered.slot taken.call (arrival_as (planned_call planned)))
+begun_by parts k regs reads planned begins stands =
+    let c = call_with (booted_of_setup parts.setup) (tables_of parts.tables) planned.entered in
+    new_in_slot k regs reads planned.entered.slot (taken_of c planned.plan).call (planned_call planned)
+    (record { free = planned_free parts k planned begins stands; event = λ session. plan_event_is session c planned.plan begins.applies })
+    (plan_names c planned.plan c.head.func (is_some c.area))
 
 -- ---- calls that come back
 
@@ -226,57 +191,34 @@ module _ (parts : Parts) (k : Kernel) (regs lane : List ℕ) (reads : List Read)
       ∙ ap (λ (b : Bool). if b && not before.seen then Some cont.steps else None) (sym saw)
       ∙ ap (λ n. if now.seen && not before.seen then Some n else None) is.steps
 
-  pub back_arrives : StandsFor parts k → call_resumed_by k.slots regs ≡ Some before → IsDecidedFor regs lane [] decided reads before
-      → IsCall cont before → before.marked ≡ marked
-      → over_lane (resume (booted_of_setup parts.setup) k regs) lane []
-      ≡ Some (model.Takes (thread_in regs) (model.works_on (goes_on_as parts regs decided before)), reads)
-      → IsArrivalFrom k regs lane (resume (booted_of_setup parts.setup) k regs) (arrival.Back (back_as cont marked given))
-  back_arrives stands found its is was decides =
+  pub back_arrives : call_resumed_by k.slots regs ≡ Some before → IsDecidedFor regs lane [] decided reads before → IsCall cont before
+      → before.marked ≡ marked → IsBack k regs reads (thread_in regs) now (back_as cont marked given)
+  back_arrives found its is was =
       let there = suspended_at (client_in regs) (slice_get k.slots (thread_in regs)) before found in
       record {
-        decision = model.Takes (thread_in regs) (model.works_on (goes_on_as parts regs decided before));
-        reads = reads;
-        decides = decides;
-        is = record {
-          client = there.0;
-          before = before;
-          held = there.1;
-          given = given;
-          reads_it = ((over_lane-reading (given_to regs (thread_in regs) before) lane reads given).0 its).0;
-          seen = seen_is is was;
-          input = input_is (thread_in regs) cont before given is;
-        };
+        client = there.0;
+        before = before;
+        held = there.1;
+        given = given;
+        reads_it = ((over_lane-reading (given_to regs (thread_in regs) before) lane reads given).0 its).0;
+        seen = seen_is is was;
+        input = input_is (thread_in regs) cont before given is;
       }
 
-pub back_comes : (parts : Parts) (k : Kernel) (regs lane : List ℕ) (reads : List Read) (decided : Decided) (back : BackWith)
-    → StandsFor parts k → IsDecided k.slots regs lane [] (Some decided) reads → IsBackIn parts regs (given_as decided.given) back
-    → IsArrivalFrom k regs lane (resume (booted_of_setup parts.setup) k regs) (arrival.Back back)
-back_comes parts k regs lane reads decided back stands is back_is =
-    let boot = booted_of_setup parts.setup in
-    let its = decision_taken boot k regs lane [] decided reads is in
+-- by what it goes on with
+pub back_by : (parts : Parts) (k : Kernel) (regs lane : List ℕ) (reads : List Read) (decided : Decided) (back : BackWith) → StandsFor parts k
+    → IsDecided k.slots regs lane [] (Some decided) reads → IsBackIn parts regs (given_as decided.given) back
+    → IsArrivalBy k regs reads (arrival.Back back) (decision_as parts k regs (decision.GoesOn decided))
+back_by parts k regs lane reads decided back stands is back_is =
+    let its = decision_taken (booted_of_setup parts.setup) k regs lane [] decided reads is in
     let at = slot_resumed parts.slots parts.cancellations.items k.slots regs its.call stands.slots its.found in
-    subst (λ (b : BackWith). IsArrivalFrom k regs lane (resume boot k regs) (arrival.Back b))
-    (sym (back_is at.cont at.cancellation at.resumes at.there))
-    (back_arrives parts k regs lane reads decided its.call at.cont.value at.cancellation.marked stands its.found its.decides at.is
-    (sym at.fits.marked)
-    (its.takes
-    ∙ ap (λ (tables : Tables). Some (
-      model.Takes (thread_in regs)
-          (model.works_on (onward_of (resumed_call boot tables (thread_in regs) its.call (given_as decided.given)))),
-      reads,
-    ))
-    (sym stands.tables)))
-
--- no call comes back
-pub answered_back : (parts : Parts) (k : Kernel) (regs lane : List ℕ) (reads : List Read)
-    → IsDecided k.slots regs lane [] None reads
-    → IsArrivalFrom k regs lane (resume (booted_of_setup parts.setup) k regs) arrival.Nothing
-answered_back parts k regs lane reads is = record {
-  decision = model.Answers eresume;
-  reads = reads;
-  decides = resume_refused parts k regs lane [] reads is;
-  is = tt;
-}
+    let came = back_arrives parts k regs lane reads decided its.call at.cont.value at.cancellation.marked its.found its.decides at.is
+    (sym at.fits.marked) in
+    let goes_on : PendingCall → model.Decision = goes_on_in parts regs decided in
+    subst (λ (found : Option PendingCall). IsArrivalBy k regs reads (arrival.Back back) (option_map_or goes_on found (model.Answers eresume)))
+    (sym its.found)
+    (subst (λ (b : BackWith). IsBack k regs reads (thread_in regs) (goes_on_as parts regs decided its.call).call b)
+    (sym (back_is at.cont at.cancellation at.resumes at.there)) came)
 
 -- what stands beside the slot of a call that is handed out is there
 pub beside_there : (parts : Parts) (regs : List ℕ) → ∥ Replays parts ∥₁ → IsSuspended parts.slots regs

@@ -1,29 +1,19 @@
--- What a new call is, whoever's it is, by what the kernel decides of it.
-use Rattle.std.specs.Prelude.{◌≡◌, ℕ, ◌==◌, Bool, true, false, if◌then◌else◌, List, [], Option, Some, None, is_some, slice_get}
+-- What a new call is, whoever's it is, by its plan.
+use Rattle.std.specs.Prelude.{ℕ, ◌==◌, Bool, true, false, if◌then◌else◌, Option, Some, None, is_some}
 use Rattle.isolation.specs.declared.calls.NewCall.{NewCall}
 use Rattle.isolation.specs.declared.calls.NewCall.TheVariants.{Opens, InSession}
 use Rattle.isolation.specs.declared.calls.NewOpen.{NewOpen}
 use Rattle.isolation.specs.declared.calls.SessionCall.TheVariants as in_session
+use Rattle.kernel_entry.specs.declared.deciding.PlannedCall.{PlannedCall}
 use Rattle.kernel_model.specs.Application.{Application, uuid_of}
 use Rattle.kernel_model.specs.Codes.{bad_parameters, out_of_memory, target_dead}
-use Rattle.kernel_model.specs.Decision.{Decision, Answers, Taken, Takes}
-use Rattle.kernel_model.specs.Kernel.{Free, Kernel}
-use Rattle.kernel_model.specs.NewCall.{NewCall as Call}
 use Rattle.kernel_state.specs.Setup.{application_of}
-use Rattle.new_calls.specs.Applying.{CanApply}
-use Rattle.new_calls.specs.Deciding.{taken_of}
-use Rattle.new_calls.specs.declared.decided.Decided.{Decided as NewDecided}
-use Rattle.new_calls.specs.declared.decided.Decided.TheVariants as decided
 use Rattle.new_calls.specs.declared.halt.Settled.TheVariants as settled
 use Rattle.new_calls.specs.declared.plan.Plan.{Plan}
 use Rattle.new_calls.specs.declared.plan.Plan.TheVariants as plan
-use Rattle.ns_ram.specs.Reader.{Reader, over_lane}
-use Rattle.ns_ram.specs.declared.read.Read.{Read}
 use Rattle.own_model.specs.declared.own_event.OwnInput.{OwnInput}
 use Rattle.own_model.specs.declared.own_event.OwnInput.TheVariants as input
 use Rattle.ta_params.specs.declared.login.Login.{Login}
-
--- ---- by its plan
 
 -- what came of the parameters of an invoke that was settled with this code, and of an open
 abbrev pub invoke_input : ℕ → OwnInput
@@ -68,30 +58,6 @@ call_by func area plan.Cancels = Some (InSession in_session.Cancel)
 call_by func area (plan.KeepsBuffer cookie buffer) = None
 call_by func area (plan.DropsBuffer cookie) = None
 
--- by what was decided of it
-abbrev pub call_in : NewDecided → Option NewCall
-call_in (decided.Answers answer) = None
-call_in (decided.Takes entered plan) = call_by entered.head.func (is_some entered.area) plan
-
--- ---- by what the kernel decides
-
--- the slot was free, and is taken for this call
-pub record IsCallTaken (kernel : Kernel) (slot : ℕ) (taken : Taken) (came : Option NewCall) : Type 0 where
-  pub free : slice_get kernel.slots slot ≡ Some Free
-  pub call : Call
-  pub plan : Plan
-  pub can : CanApply call plan
-  pub taken_for : taken ≡ taken_of call plan
-  pub is : came ≡ call_by call.head.func (is_some call.area) plan
-
--- a call that is answered is none of anybody's
-abbrev pub IsCallBy : Kernel → Option NewCall → Decision → Type 0
-IsCallBy kernel came (Answers answer) = came ≡ None
-IsCallBy kernel came (Takes slot taken) = IsCallTaken kernel slot taken came
-
--- what this reader decides of a lane makes it this
-pub record IsNewCall (kernel : Kernel) (lane : List ℕ) (reader : Reader Decision) (came : Option NewCall) : Type 0 where
-  pub decision : Decision
-  pub reads : List Read
-  pub decides : over_lane reader lane [] ≡ Some (decision, reads)
-  pub is : IsCallBy kernel came decision
+-- what one is that is planned
+abbrev pub planned_call : PlannedCall → Option NewCall
+planned_call planned = call_by planned.entered.head.func (is_some planned.entered.area) planned.plan

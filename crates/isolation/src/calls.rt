@@ -1,19 +1,13 @@
 //! What a new call is, whoever's it is.
 ghost use Rattle.std.specs.Prelude.{◌≡◌, IfOk};
-ghost use Rattle.isolation.specs.Calls.{IsNewCall, call_by, call_in, invoke_input, open_input, settled_open};
-ghost use Rattle.kernel_model.specs.Kernel.{Kernel};
-ghost use Rattle.kernel_model.specs.NewCall.{new_call};
-ghost use Rattle.kernel_state.specs.Meaning.{booted_of};
+ghost use Rattle.isolation.specs.Calls.{call_by, invoke_input, open_input, planned_call, settled_open};
 ghost use Rattle.kernel_state.specs.Setup.{application_of};
-ghost use Rattle.kernel_state.specs.StandsFor.{StandsFor};
 
 use base::NoMemory;
-use kernel_state::{Application, Core};
-use new_calls::{Decided, Found, Plan, Settled, lowest_free, new_call};
-use ns_ram::{Lane, Reads};
+use kernel_entry::PlannedCall;
+use kernel_state::Application;
+use new_calls::{Plan, Settled};
 use own_model::OwnInput;
-use smc_abi::Regs;
-use std::alloc::Global;
 use ta_params::Login;
 use ta_params::codes::{TEE_ERROR_BAD_PARAMETERS, TEE_ERROR_OUT_OF_MEMORY, TEE_ERROR_TARGET_DEAD};
 use uuid::Uuid;
@@ -95,69 +89,49 @@ fn settled_open(app: &Application, login: Login, code: u32, area: bool) -> NewOp
 
 /// What a new call is, by what its slot is taken for; the function is the one that its argument names, and it has an area or
 /// not.
-fn call_by(func: u32, area: bool, plan: Plan) -> Option<NewCall>
-    ensures { result ≡ call_by func area plan }
+fn call_by(func: u32, area: bool, plan: &Plan) -> Result<Option<NewCall>, NoMemory>
+    ensures { IfOk result (λ call. call ≡ call_by func area plan.now) }
 {
     match plan {
         Plan::Settles(Settled::Open(app, login, code)) => {
-            Some(NewCall::Opens(settled_open(&app, login, code, area)))
+            Ok(Some(NewCall::Opens(settled_open(app, *login, *code, area))))
         }
-        Plan::Settles(Settled::Invoke(code)) => Some(NewCall::InSession(SessionCall::Invoke {
+        Plan::Settles(Settled::Invoke(code)) => Ok(Some(NewCall::InSession(SessionCall::Invoke {
             func,
-            input: invoke_input(code),
+            input: invoke_input(*code),
             area,
-        })),
-        Plan::Opens { app, login, copies } => Some(NewCall::Opens(NewOpen {
-            uuid: app.uuid(),
-            input: OwnInput::Copied(Box::into_inner(copies).params),
-            login,
-            limited: false,
-            area,
-            reserves: true,
-        })),
-        Plan::Invokes { copies, .. } => Some(NewCall::InSession(SessionCall::Invoke {
-            func,
-            input: OwnInput::Copied(Box::into_inner(copies).params),
-            area,
-        })),
-        Plan::Closes { .. } => Some(NewCall::InSession(SessionCall::Close { area })),
-        Plan::Cancels => Some(NewCall::InSession(SessionCall::Cancel)),
+        }))),
+        Plan::Opens { app, login, copies } => {
+            let params = copies.params.clone()?;
+            Ok(Some(NewCall::Opens(NewOpen {
+                uuid: app.uuid(),
+                input: OwnInput::Copied(params),
+                login: *login,
+                limited: false,
+                area,
+                reserves: true,
+            })))
+        }
+        Plan::Invokes { copies, .. } => {
+            let params = copies.params.clone()?;
+            Ok(Some(NewCall::InSession(SessionCall::Invoke {
+                func,
+                input: OwnInput::Copied(params),
+                area,
+            })))
+        }
+        Plan::Closes { .. } => Ok(Some(NewCall::InSession(SessionCall::Close { area }))),
+        Plan::Cancels => Ok(Some(NewCall::InSession(SessionCall::Cancel))),
         Plan::Settles(Settled::Call(_)) | Plan::KeepsBuffer { .. } | Plan::DropsBuffer { .. } => {
-            None
+            Ok(None)
         }
     }
 }
 
-/// What a new call is, by what was decided of it.
-fn call_in(decided: Decided) -> Option<NewCall>
-    ensures { result ≡ call_in decided }
+/// What a new call is that is planned: `None` of one that is of no application and no session.
+pub fn planned_call(planned: &PlannedCall) -> Result<Option<NewCall>, NoMemory>
+    ensures { IfOk result (λ call. call ≡ planned_call planned.now) }
 {
-    match decided {
-        Decided::Answers(_) => None,
-        Decided::Takes(entered, plan) => {
-            call_by(entered.head.func, entered.area.is_some(), plan)
-        }
-    }
-}
-
-/// What a new call with these registers is over this lane, by the core before it: `None` of one that is answered, and of one
-/// that is of no application and no session.
-pub fn new_call_on(
-    alloc: Global,
-    core: &Core,
-    regs: &Regs,
-    lane: &Lane,
-) -> Result<Option<NewCall>, NoMemory>
-    ensures { (kernel : Kernel) → StandsFor core.now.parts kernel
-        → IfOk result (IsNewCall kernel lane.now (new_call (booted_of core.now) kernel regs.now.a)) }
-{
-    let free = lowest_free(&core.parts.slots);
-    let found = Found {
-        setup: &core.parts.setup,
-        tables: &core.parts.tables,
-        free,
-    };
-    let mut reads = Reads::new(alloc);
-    let decided = new_call(alloc, &found, regs, lane, &mut reads)?;
-    Ok(call_in(decided))
+    let entered = &planned.entered;
+    call_by(entered.head.func, entered.area.is_some(), &planned.plan)
 }

@@ -1,26 +1,25 @@
-//! What an entry is for a session, as far as it can be told before it.
-ghost use Rattle.std.specs.Prelude.{◌≡◌, IfOk};
-ghost use Rattle.isolation.specs.Arriving.{IsArrival, IsArrivalFrom, IsBackIn, arrival_of, back_as, counts, event_in, open_event, opens_in};
+//! What an entry is for a session, as far as it can be told before it is done.
+ghost use Rattle.std.specs.Prelude.{◌≡◌, ℕ, List, IfOk};
+ghost use Rattle.isolation.specs.Arriving.{IsBackIn, arrival_as, arrival_of, back_as, counts, event_in, open_event, opens_in};
+ghost use Rattle.isolation.specs.Calls.{planned_call};
+ghost use Rattle.isolation.specs.Meaning.{IsArrivalOn};
+ghost use Rattle.kernel_entry.specs.Entering.{IsPrepared, WasPrepared};
 ghost use Rattle.kernel_entry.specs.Resuming.{IsSuspended};
-ghost use Rattle.kernel_model.specs.Kernel.{Kernel};
-ghost use Rattle.kernel_model.specs.NewCall.{new_call};
-ghost use Rattle.kernel_model.specs.Resume.{resume};
-ghost use Rattle.kernel_state.specs.Meaning.{booted_of};
-ghost use Rattle.kernel_state.specs.StandsFor.{StandsFor};
 ghost use Rattle.own_model.specs.Own.{input_of};
 ghost use Rattle.resumed_calls.specs.Giving.{given_as};
 
-use crate::calls::{NewCall, SessionCall, new_call_on};
+use crate::calls::{NewCall, SessionCall, planned_call};
 use crate::notes::Back;
 use base::NoMemory;
 use boxed::Boxed;
 use frame_pool::Pages;
 use job_model::CallKind;
+use kernel_entry::{EntryDecision, PlannedCall, Prepared};
 use kernel_state::{Carried, Core};
-use ns_ram::{Lane, Reads};
 use own_model::{BackInput, OwnEvent, OwnInput};
 use rpc_cont::{Cont, Phase, ResumeInput};
-use smc_abi::{Call, Regs, decode_call};
+use rpc_msgs::{Payload, RpcReply};
+use smc_abi::Regs;
 use std::alloc::Global;
 use ta_params::Login;
 use uuid::Uuid;
@@ -102,34 +101,46 @@ fn arrival_of(alloc: Global, call: NewCall) -> Result<Arrival, NoMemory>
     }
 }
 
-/// What a new call with these registers is.
-fn new_arrival(alloc: Global, core: &Core, regs: &Regs, lane: &Lane) -> Result<Arrival, NoMemory>
-    ensures { (kernel : Kernel) → StandsFor core.now.parts kernel
-        → IfOk result (IsArrivalFrom kernel regs.now.a lane.now (new_call (booted_of core.now) kernel regs.now.a)) }
+/// What a new call is that is planned.
+fn new_arrival(alloc: Global, planned: &PlannedCall) -> Result<Arrival, NoMemory>
+    ensures { IfOk result (λ arrival. arrival ≡ arrival_as (planned_call planned.now)) }
 {
-    let call = new_call_on(alloc, core, regs, lane)?;
+    let call = planned_call(planned)?;
     match call {
         Some(call) => arrival_of(alloc, call),
         None => Ok(Arrival::Nothing),
     }
 }
 
+/// A reply, once more.
+fn copy_of(reply: &RpcReply) -> RpcReply
+    ensures { result ≡ reply.now }
+{
+    RpcReply {
+        ret: reply.ret,
+        v: reply.v,
+        w: reply.w,
+        size: reply.size,
+        bytes: Payload::of(reply.bytes.bytes()),
+    }
+}
+
 /// What a call is given, without its buffer's place.
-fn input_of(given: ResumeInput) -> BackInput
-    ensures { result ≡ input_of (given_as given) }
+fn input_of(given: &ResumeInput) -> BackInput
+    ensures { result ≡ input_of (given_as given.now) }
 {
     match given {
         ResumeInput::Nothing => BackInput::Nothing,
         ResumeInput::Buffer { .. } => BackInput::Buffer,
         ResumeInput::NoBuffer => BackInput::NoBuffer,
-        ResumeInput::Reply(reply) => BackInput::Reply(Box::into_inner(reply)),
+        ResumeInput::Reply(reply) => BackInput::Reply(copy_of(reply)),
     }
 }
 
 /// What a call comes back with that is in this phase, was cancelled or not, and is given this. One that was interrupted had
 /// asked for nothing.
-fn back_of(cont: &Cont<Pages>, marked: bool, given: ResumeInput) -> Back
-    ensures { result ≡ back_as cont.now marked (given_as given) }
+fn back_of(cont: &Cont<Pages>, marked: bool, given: &ResumeInput) -> Back
+    ensures { result ≡ back_as cont.now marked (given_as given.now) }
 {
     let seen = if marked && !cont.cancelled {
         Some(cont.steps)
@@ -144,9 +155,9 @@ fn back_of(cont: &Cont<Pages>, marked: bool, given: ResumeInput) -> Back
 }
 
 /// What the call comes back with that these registers name, and that is given this.
-pub fn back_in(core: &Core, regs: &Regs, given: ResumeInput) -> Back
+pub fn back_in(core: &Core, regs: &Regs, given: &ResumeInput) -> Back
     requires { IsSuspended core.now.parts.slots regs.now.a }
-    ensures { IsBackIn core.now.parts regs.now.a (given_as given) result }
+    ensures { IsBackIn core.now.parts regs.now.a (given_as given.now) result }
 {
     let slot = regs.a[3];
     let Ok(cont) = core.parts.slots.suspended_call(slot, regs.a[7]) else {
@@ -156,39 +167,24 @@ pub fn back_in(core: &Core, regs: &Regs, given: ResumeInput) -> Back
     back_of(cont, marked, given)
 }
 
-/// What a resume is.
-fn back_arrival(alloc: Global, core: &Core, regs: &Regs, lane: &Lane) -> Result<Arrival, NoMemory>
-    ensures { (kernel : Kernel) → StandsFor core.now.parts kernel
-        → IfOk result (IsArrivalFrom kernel regs.now.a lane.now (resume (booted_of core.now) kernel regs.now.a)) }
-{
-    let mut reads = Reads::new(alloc);
-    let (setup, slots) = (&core.parts.setup, &core.parts.slots);
-    let call = resumed_calls::decide(alloc, setup, slots, regs, lane, &mut reads)?;
-    match call {
-        Some(decided) => {
-            let back = Boxed::new(alloc, back_in(core, regs, decided.given))?;
-            Ok(Arrival::Back(back))
-        }
-        None => Ok(Arrival::Nothing),
-    }
-}
-
-/// What an entry with these registers is.
+/// What an entry with these registers is that is prepared.
 pub(crate) fn arrival_on(
     alloc: Global,
     core: &Core,
     regs: &Regs,
-    lane: &Lane,
+    prepared: &Prepared,
 ) -> Result<Arrival, NoMemory>
-    ensures { (kernel : Kernel) → StandsFor core.now.parts kernel
-        → IfOk result (IsArrival (booted_of core.now) kernel regs.now.a lane.now) }
+    requires { WasPrepared core.now.parts regs.now.a prepared.now }
+    ensures { (lane : List ℕ) → IsPrepared core.now.parts regs.now.a lane prepared.now
+        → IfOk result (IsArrivalOn core.now regs.now.a lane) }
 {
-    match decode_call(regs) {
-        Call::WithArg | Call::WithRpcArg | Call::WithRegdArg => {
-            new_arrival(alloc, core, regs, lane)
+    match &prepared.decision {
+        EntryDecision::Answers(_) => Ok(Arrival::Nothing),
+        EntryDecision::Begins(planned) => new_arrival(alloc, planned),
+        EntryDecision::GoesOn(decided) => {
+            let back = Boxed::new(alloc, back_in(core, regs, &decided.given))?;
+            Ok(Arrival::Back(back))
         }
-        Call::Resume => back_arrival(alloc, core, regs, lane),
-        Call::Fast(_) | Call::Unknown => Ok(Arrival::Nothing),
     }
 }
 

@@ -32,11 +32,10 @@
 //!   behind those before it, a call that comes in is among the session's first 2^32, and one that runs and goes out
 //!   stays below 2^128 steps (`feeds`). That is all that `step` of `solo` asks. It holds since the machine is tied to
 //!   the kernel before each event of the history, and no call does more steps for each than the step limit.
-//! - The journal is done again on a core of the same boot, over RAM that has what each entry read; what an entry and an
-//!   exit are for the session is read off that core (`journal_notes`).
-//! - What a new call is, whoever's it is, `new_call_on` tells before its entry, by what the kernel decides of it
-//!   (`IsNewCall`): an open of an application, whatever its later tests come to, a call in a session, or neither. A
-//!   group's events are made of it, too.
+//! - The journal is done again on a core of the same boot, over RAM that has what each entry read; what an entry is for
+//!   the session is read off what that core has decided, and what an exit is off the core (`journal_notes`).
+//! - What a new call is, whoever's it is, `planned_call` tells by the plan that was made of it: an open of an
+//!   application, whatever its later tests come to, a call in a session, or neither. A group's events are made of it, too.
 //! - Want of memory is left open. The reads of each entry can be laid into RAM, and a core boots with the journal's
 //!   boot (`journal_replay`). Numbers aren't wanting: the entry of each of a session's calls has read the 32 bytes of
 //!   its argument's head (`own_calls_read`), so that at most 2^23 have come in. `core_cases` runs `own_events` and
@@ -67,7 +66,7 @@ mod session_log;
 mod session_notes;
 
 pub use base::NoMemory;
-pub use calls::{NewCall, NewOpen, SessionCall, new_call_on};
+pub use calls::{NewCall, NewOpen, SessionCall, planned_call};
 pub use coming::errand_of;
 pub use entering::back_in;
 pub use going::left_in;

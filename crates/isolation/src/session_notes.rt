@@ -9,7 +9,7 @@ use crate::session_log::BoxedEntry;
 use base::NoMemory;
 use core_at_work::CoreAtWork;
 use journal_notes::EventNotes;
-use kernel_entry::Visitor;
+use kernel_entry::{Prepared, Visitor};
 use kernel_state::{Core, Errand, Ran};
 use ns_ram::Lane;
 use own_model::{OwnEvent, OwnReply};
@@ -32,9 +32,9 @@ impl EventNotes for Notes {
         alloc: Global,
         core: &Core,
         regs: &Regs,
-        lane: &Lane,
+        prepared: &Prepared,
     ) -> Result<Arrival, NoMemory> {
-        arrival_on(alloc, core, regs, lane)
+        arrival_on(alloc, core, regs, prepared)
     }
 
     fn come_in(

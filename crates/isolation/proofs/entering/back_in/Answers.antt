@@ -23,6 +23,6 @@ returns c cont beside handed there =
     let marks = c.index.ensures
     ∙ get_or_from_slice_get c.args.core.now.parts.cancellations.items (thread_in c.args.regs.now.a) beside c.index.result.now there in
     c.back_of.ensures
-    ∙ ap (λ (k : Cont (List ℕ)). back_as k c.index.result.now.marked (given_as c.args.given))
+    ∙ ap (λ (k : Cont (List ℕ)). back_as k c.index.result.now.marked (given_as c.args.given.now))
     (c.deref.ensures ∙ ap (λ (b : Box (Cont (List ℕ))). b.value) same)
-    ∙ ap (λ (b : Cancellation). back_as cont.value b.marked (given_as c.args.given)) marks
+    ∙ ap (λ (b : Cancellation). back_as cont.value b.marked (given_as c.args.given.now)) marks
