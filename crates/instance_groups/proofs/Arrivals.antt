@@ -1,42 +1,46 @@
 -- What an entry is for a group is what the kernel's decision makes of it.
 use Rattle.std.proofs.Common.{◌≡◌, ℕ, ◌==◌, Bool, true, false, List, [], Option, Some, None, refl, ap, sym, subst, ◌∙◌}
 use Rattle.std.specs.Prelude.{◌&&◌, not, if◌then◌else◌, slice_get, is_some}
-use Rattle.std.specs.Option.{is_none}
+use Rattle.std.specs.Option.{is_none, option_map_or}
 use Rattle.base.specs.NumberMap.{get}
 use Rattle.group_model.specs.Read.{finds_it_gone}
-use Rattle.instance_groups.specs.Arriving.{IsArrivalBy, IsArrivalFrom, IsArrivalIn, IsNew, IsRoomIn, Watch, arrival_of, finds_gone}
+use Rattle.instance_groups.specs.Arriving.{IsArrival, IsArrivalBy, IsArrivalIn, IsNew, IsResumed, IsRoomIn, Watch, arrival_of, finds_gone}
 use Rattle.instance_groups.specs.Arriving.{is_open, is_waiting, room_as, room_then, watch}
+use Rattle.instance_groups.specs.declared.arriving.Arrival.{Arrival}
 use Rattle.instance_groups.specs.declared.arriving.Arrival.TheVariants as arrival
 use Rattle.isolation.specs.declared.calls.NewCall.{NewCall}
 use Rattle.instance_groups.specs.declared.arriving.Resumed.{Resumed}
 use Rattle.instance_groups.proofs.Plans.{plan_is}
 use Rattle.isolation.specs.Arriving.{IsBackIn, back_as}
-use Rattle.isolation.specs.Calls.{IsCallBy, IsNewCall, call_by}
+use Rattle.isolation.specs.Calls.{planned_call}
 use Rattle.isolation.specs.declared.notes.Back.{Back as BackWith}
 use Rattle.isolation.proofs.Arrivals.{seen_is}
 use Rattle.isolation.proofs.Arrived.{input_is}
 use Rattle.isolation.proofs.LeftCalls.{PhaseAs, phase_as}
+use Rattle.isolation.proofs.NewCalls.{planned_free}
 use Rattle.job_model.specs.declared.call_kind.CallKind.{CallKind}
 use Rattle.job_model.specs.declared.call_kind.CallKind.TheVariants as kind
-use Rattle.kernel_entry.proofs.Decisions.{resume_refused}
+use Rattle.kernel_entry.specs.Deciding.{CanBegin, decision_as, goes_on_in}
+use Rattle.kernel_entry.specs.Entering.{IsPrepared}
 use Rattle.kernel_entry.specs.Resuming.{goes_on_as}
+use Rattle.kernel_entry.specs.declared.deciding.EntryDecision.TheVariants as decision
+use Rattle.kernel_entry.specs.declared.deciding.PlannedCall.{PlannedCall}
+use Rattle.kernel_entry.specs.declared.preparing.Prepared.{Prepared}
 use Rattle.kernel_model.specs.Application.{Application, Booted}
-use Rattle.kernel_model.specs.Argument.{client_in, reg, thread_in}
+use Rattle.kernel_model.specs.Argument.{client_in, thread_in}
 use Rattle.kernel_model.specs.Begin.{has_pages_for}
-use Rattle.kernel_model.specs.Codes.{eresume, unknown_function}
+use Rattle.kernel_model.specs.Codes.{eresume}
 use Rattle.kernel_model.specs.Decision as model
-use Rattle.kernel_model.specs.Entry.{decision_of}
 use Rattle.kernel_model.specs.Given.{Given, given_to}
 use Rattle.kernel_model.specs.Kernel.{CallPhase, Runs, Asks, Waits, Ends, Active, Free, Kernel, PendingCall, Suspended, Tables, ThreadSlot}
-use Rattle.kernel_model.specs.Resume.{call_resumed_by, onward_of, resume, resumed_call, suspended_for}
+use Rattle.kernel_model.specs.Resume.{call_resumed_by, suspended_for}
 use Rattle.kernel_state.specs.Calls.{IsCall}
 use Rattle.kernel_state.specs.Setup.{booted_of_setup}
 use Rattle.kernel_state.specs.StandsFor.{StandsFor}
 use Rattle.kernel_state.specs.Tables.{tables_of}
 use Rattle.kernel_state.specs.declared.parts.Parts.{Parts}
-use Rattle.new_calls.specs.Deciding.{taken_of}
+use Rattle.new_calls.specs.Deciding.{call_with, taken_of}
 use Rattle.ns_ram.proofs.ReaderLaws.{over_lane-reading}
-use Rattle.ns_ram.specs.Reader.{Reader, over_lane}
 use Rattle.ns_ram.specs.declared.read.Read.{Read}
 use Rattle.resumed_calls.proofs.Taking.{decision_taken, slot_resumed}
 use Rattle.resumed_calls.specs.Deciding.{IsDecided, IsDecidedFor}
@@ -44,36 +48,20 @@ use Rattle.resumed_calls.specs.Giving.{given_as}
 use Rattle.resumed_calls.specs.declared.deciding.Decided.{Decided}
 use Rattle.rpc_cont.specs.declared.cont.Cont.{Cont}
 use Rattle.rpc_cont.specs.declared.phase.Phase.{Phase}
-use Rattle.smc_abi.specs.Call.{call_of}
-use Rattle.smc_abi.specs.FastAnswer.{fast_answer_of}
-use Rattle.smc_abi.specs.declared.call.Call.{Call}
-use Rattle.smc_abi.specs.declared.call.Call.TheVariants.{Fast, Unknown}
-use Rattle.smc_abi.specs.declared.call.FastCall.{FastCall}
 
--- ---- calls whose answer is fixed by their registers
+-- ---- what is prepared
 
--- nothing happens to a group
-pub answered_fast : (w : Watch) (regs lane : List ℕ) (call : FastCall) → call_of (reg regs 0) ≡ Fast call
-    → IsArrivalFrom w regs lane (decision_of w.boot w.kernel regs (call_of (reg regs 0))) arrival.Nothing
-answered_fast w regs lane call is =
-    let found : IsArrivalFrom w regs lane (decision_of w.boot w.kernel regs (Fast call)) arrival.Nothing = record {
-      decision = model.Answers (fast_answer_of call regs w.boot.threads);
-      reads = [];
-      decides = refl;
-      is = tt;
-    } in
-    subst (λ (named : Call). IsArrivalFrom w regs lane (decision_of w.boot w.kernel regs named) arrival.Nothing) (sym is) found
-
-pub answered_unknown : (w : Watch) (regs lane : List ℕ) → call_of (reg regs 0) ≡ Unknown
-    → IsArrivalFrom w regs lane (decision_of w.boot w.kernel regs (call_of (reg regs 0))) arrival.Nothing
-answered_unknown w regs lane is =
-    let found : IsArrivalFrom w regs lane (decision_of w.boot w.kernel regs Unknown) arrival.Nothing = record {
-      decision = model.Answers unknown_function;
-      reads = [];
-      decides = refl;
-      is = tt;
-    } in
-    subst (λ (named : Call). IsArrivalFrom w regs lane (decision_of w.boot w.kernel regs named) arrival.Nothing) (sym is) found
+-- the kernel decides so, by which it is this
+pub arrives : (parts : Parts) (app : Application) (k : Kernel) (regs lane : List ℕ) (prepared : Prepared) (came : Arrival)
+    → IsPrepared parts regs lane prepared → StandsFor parts k
+    → IsArrivalBy (watch (booted_of_setup parts.setup) app k) regs prepared.reads came (decision_as parts k regs prepared.decision)
+    → IsArrival (watch (booted_of_setup parts.setup) app k) regs lane came
+arrives parts app k regs lane prepared came is stands by = record {
+  decision = decision_as parts k regs prepared.decision;
+  reads = prepared.reads;
+  decides = is.decides k stands;
+  is = by;
+}
 
 -- ---- new calls
 
@@ -82,23 +70,17 @@ new_in_slot : (w : Watch) (regs : List ℕ) (reads : List Read) (slot : ℕ) (ca
 new_in_slot w regs reads slot call tables None is = is
 new_in_slot w regs reads slot call tables (Some came) is = is
 
--- by what the kernel decided of it
-new_by : (w : Watch) (regs : List ℕ) (reads : List Read) (came : Option NewCall) (decision : model.Decision)
-    → IsCallBy w.kernel came decision → IsArrivalBy w regs reads (arrival_of came) decision
-new_by w regs reads came (model.Answers answer) is = tt
-new_by w regs reads came (model.Takes slot taken) is =
-    let c = is.call in
-    let called = call_by c.head.func (is_some c.area) is.plan in
-    let planned = plan_is c is.plan is.can in
-    subst (λ (o : Option NewCall). IsArrivalIn w regs reads slot taken.call taken.tables (arrival_of o)) (sym is.is)
-    (subst (λ (t : model.Taken). IsArrivalIn w regs reads slot t.call t.tables (arrival_of called)) (sym is.taken_for)
-    (new_in_slot w regs reads slot (taken_of c is.plan).call (taken_of c is.plan).tables called
-    (record { free = is.free; event = planned.event; sessions = planned.sessions })))
-
-pub new_arrives : (w : Watch) (regs lane : List ℕ) (reader : Reader model.Decision) (came : Option NewCall)
-    → IsNewCall w.kernel lane reader came → IsArrivalFrom w regs lane reader (arrival_of came)
-new_arrives w regs lane reader came it =
-    record { decision = it.decision; reads = it.reads; decides = it.decides; is = new_by w regs it.reads came it.decision it.is }
+-- by what it is planned for
+pub begun_by : (parts : Parts) (w : Watch) (regs : List ℕ) (reads : List Read) (planned : PlannedCall)
+    → CanBegin parts planned.entered planned.plan → StandsFor parts w.kernel
+    → (let taken = taken_of (call_with (booted_of_setup parts.setup) (tables_of parts.tables) planned.entered) planned.plan in
+    IsArrivalIn w regs reads planned.entered.slot taken.call taken.tables (arrival_of (planned_call planned)))
+begun_by parts w regs reads planned begins stands =
+    let c = call_with (booted_of_setup parts.setup) (tables_of parts.tables) planned.entered in
+    let taken = taken_of c planned.plan in
+    let so = plan_is c planned.plan begins.applies in
+    new_in_slot w regs reads planned.entered.slot taken.call taken.tables (planned_call planned)
+    (record { free = planned_free parts w.kernel planned begins stands; event = so.event; sessions = so.sessions })
 
 -- ---- whether its instance is gone
 
@@ -153,55 +135,34 @@ module _ (parts : Parts) (app : Application) (k : Kernel) (regs lane : List ℕ)
   back_arrives : StandsFor parts k → call_resumed_by k.slots regs ≡ Some before → IsDecidedFor regs lane [] decided reads before
       → IsCall cont before → before.marked ≡ marked → (came : Resumed) → came.back ≡ back_as cont marked given
       → came.room ≡ room_as (booted_of_setup parts.setup) (tables_of parts.tables) app cont
-      → over_lane (resume (booted_of_setup parts.setup) k regs) lane []
-      ≡ Some (model.Takes (thread_in regs) (model.works_on (goes_on_as parts regs decided before)), reads)
-      → IsArrivalFrom (watch (booted_of_setup parts.setup) app k) regs lane (resume (booted_of_setup parts.setup) k regs) (arrival.Back came)
-  back_arrives stands found its is was came back room decides =
+      → IsResumed (watch (booted_of_setup parts.setup) app k) regs reads (thread_in regs) (goes_on_as parts regs decided before).call came
+  back_arrives stands found its is was came back room =
       let there = suspended_at (client_in regs) (slice_get k.slots (thread_in regs)) before found in
       record {
-        decision = model.Takes (thread_in regs) (model.works_on (goes_on_as parts regs decided before));
-        reads = reads;
-        decides = decides;
-        is = record {
-          back = record {
-            client = there.0;
-            before = before;
-            held = there.1;
-            given = given;
-            reads_it = ((over_lane-reading (given_to regs (thread_in regs) before) lane reads given).0 its).0;
-            seen = ap (λ (b : BackWith). b.seen) back ∙ seen_is parts k regs lane reads decided before cont marked is was;
-            input = ap (λ (b : BackWith). b.input) back ∙ input_is (thread_in regs) cont before given is;
-          };
-          room = room ∙ room_is (tables_of parts.tables) cont before (booted_of_setup parts.setup) app is
-              ∙ ap (λ (tables : Tables). room_then (booted_of_setup parts.setup) tables app before) stands.tables;
+        back = record {
+          client = there.0;
+          before = before;
+          held = there.1;
+          given = given;
+          reads_it = ((over_lane-reading (given_to regs (thread_in regs) before) lane reads given).0 its).0;
+          seen = ap (λ (b : BackWith). b.seen) back ∙ seen_is parts k regs lane reads decided before cont marked is was;
+          input = ap (λ (b : BackWith). b.input) back ∙ input_is (thread_in regs) cont before given is;
         };
+        room = room ∙ room_is (tables_of parts.tables) cont before (booted_of_setup parts.setup) app is
+            ∙ ap (λ (tables : Tables). room_then (booted_of_setup parts.setup) tables app before) stands.tables;
       }
 
-pub back_comes : (parts : Parts) (app : Application) (k : Kernel) (regs lane : List ℕ) (reads : List Read) (decided : Decided) (came : Resumed)
+-- by what it goes on with
+pub back_by : (parts : Parts) (app : Application) (k : Kernel) (regs lane : List ℕ) (reads : List Read) (decided : Decided) (came : Resumed)
     → StandsFor parts k → IsDecided k.slots regs lane [] (Some decided) reads → IsBackIn parts regs (given_as decided.given) came.back
     → IsRoomIn parts app regs came.room
-    → IsArrivalFrom (watch (booted_of_setup parts.setup) app k) regs lane (resume (booted_of_setup parts.setup) k regs) (arrival.Back came)
-back_comes parts app k regs lane reads decided came stands is back_is room_is =
-    let boot = booted_of_setup parts.setup in
-    let its = decision_taken boot k regs lane [] decided reads is in
+    → IsArrivalBy (watch (booted_of_setup parts.setup) app k) regs reads (arrival.Back came) (decision_as parts k regs (decision.GoesOn decided))
+back_by parts app k regs lane reads decided came stands is back_is room_is =
+    let w = watch (booted_of_setup parts.setup) app k in
+    let its = decision_taken (booted_of_setup parts.setup) k regs lane [] decided reads is in
     let at = slot_resumed parts.slots parts.cancellations.items k.slots regs its.call stands.slots its.found in
-    back_arrives parts app k regs lane reads decided its.call at.cont.value at.cancellation.marked stands its.found its.decides at.is
-    (sym at.fits.marked) came (back_is at.cont at.cancellation at.resumes at.there) (room_is at.cont at.resumes)
-    (its.takes
-    ∙ ap (λ (tables : Tables). Some (
-      model.Takes (thread_in regs)
-          (model.works_on (onward_of (resumed_call boot tables (thread_in regs) its.call (given_as decided.given)))),
-      reads,
-    ))
-    (sym stands.tables))
-
--- no call comes back
-pub answered_back : (parts : Parts) (app : Application) (k : Kernel) (regs lane : List ℕ) (reads : List Read)
-    → IsDecided k.slots regs lane [] None reads
-    → IsArrivalFrom (watch (booted_of_setup parts.setup) app k) regs lane (resume (booted_of_setup parts.setup) k regs) arrival.Nothing
-answered_back parts app k regs lane reads is = record {
-  decision = model.Answers eresume;
-  reads = reads;
-  decides = resume_refused parts k regs lane [] reads is;
-  is = tt;
-}
+    let goes_on : PendingCall → model.Decision = goes_on_in parts regs decided in
+    subst (λ (found : Option PendingCall). IsArrivalBy w regs reads (arrival.Back came) (option_map_or goes_on found (model.Answers eresume)))
+    (sym its.found)
+    (back_arrives parts app k regs lane reads decided its.call at.cont.value at.cancellation.marked stands its.found its.decides at.is
+    (sym at.fits.marked) came (back_is at.cont at.cancellation at.resumes at.there) (room_is at.cont at.resumes))

@@ -9,6 +9,7 @@ use Rattle.instance_groups.specs.declared.arriving.Arrival.{Arrival}
 use Rattle.instance_groups.specs.declared.notes.Notes.{Notes}
 use Rattle.journal_notes.specs.Meaning.{Meaning}
 use Rattle.journal_notes.specs.Meaning as kept
+use Rattle.kernel_model.specs.Application.{Application}
 use Rattle.kernel_model.specs.Kernel.{Kernel}
 use Rattle.kernel_state.specs.Meaning.{booted_of}
 use Rattle.kernel_state.specs.Setup.{application_of}
@@ -16,10 +17,10 @@ use Rattle.kernel_state.specs.StandsFor.{StandsFor}
 use Rattle.kernel_state.specs.declared.kernel_core.Core.{Core}
 use Rattle.kernel_state.specs.declared.setup.Application.{Application as CodeApp}
 
--- what an entry with these registers is over this lane for the group of these notes, by the core before it
-abbrev pub IsArrivalOn : Notes → Core → List ℕ → List ℕ → Arrival → Type 0
-IsArrivalOn notes core regs lane came = (kernel : Kernel) → StandsFor core.parts kernel →
-    IsArrival (watch (booted_of core) (application_of notes.app) kernel) regs lane came
+-- what an entry with these registers is over this lane for a group of this application, by the core before it
+abbrev pub IsArrivalOn : Application → Core → List ℕ → List ℕ → Arrival → Type 0
+IsArrivalOn app core regs lane came = (kernel : Kernel) → StandsFor core.parts kernel →
+    IsArrival (watch (booted_of core) app kernel) regs lane came
 
 -- what the notes of a group mean: those of an application, as the core has it, which list what is noted of its sessions
 abbrev pub meaning : Meaning Notes group.Logged

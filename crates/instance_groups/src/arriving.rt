@@ -1,15 +1,13 @@
-//! What an entry is for a group of sessions, as far as it can be told before it.
-ghost use Rattle.std.specs.Prelude.{◌≡◌, IfOk};
-ghost use Rattle.instance_groups.specs.Arriving.{IsArrival, IsArrivalFrom, IsRoomIn, arrival_of, finds_gone, is_open, is_waiting, room_as, watch};
+//! What an entry is for a group of sessions, as far as it can be told before it is done.
+ghost use Rattle.std.specs.Prelude.{◌≡◌, ℕ, List, IfOk};
+ghost use Rattle.instance_groups.specs.Arriving.{IsRoomIn, arrival_of, finds_gone, is_open, is_waiting, room_as};
+ghost use Rattle.instance_groups.specs.Meaning.{IsArrivalOn};
 ghost use Rattle.isolation.specs.Arriving.{IsBackIn};
+ghost use Rattle.isolation.specs.Calls.{planned_call};
+ghost use Rattle.kernel_entry.specs.Entering.{IsPrepared, WasPrepared};
 ghost use Rattle.kernel_entry.specs.Resuming.{IsSuspended};
-ghost use Rattle.kernel_model.specs.Application.{Application as AnyApplication};
-ghost use Rattle.kernel_model.specs.Kernel.{Kernel};
-ghost use Rattle.kernel_model.specs.NewCall.{new_call};
-ghost use Rattle.kernel_model.specs.Resume.{resume};
 ghost use Rattle.kernel_state.specs.Meaning.{booted_of};
 ghost use Rattle.kernel_state.specs.Setup.{application_of};
-ghost use Rattle.kernel_state.specs.StandsFor.{StandsFor};
 ghost use Rattle.kernel_state.specs.Tables.{tables_of};
 ghost use Rattle.resumed_calls.specs.Giving.{given_as};
 
@@ -17,12 +15,12 @@ use base::NoMemory;
 use begin_call::has_pages_for;
 use boxed::Boxed;
 use frame_pool::Pages;
-use isolation::{Back, NewCall, back_in, new_call_on};
+use isolation::{Back, NewCall, back_in, planned_call};
 use job_model::CallKind;
+use kernel_entry::{EntryDecision, PlannedCall, Prepared};
 use kernel_state::{Application, Core, Tables};
-use ns_ram::{Lane, Reads};
 use rpc_cont::{Cont, Phase, ResumeInput};
-use smc_abi::{Call, Regs, decode_call};
+use smc_abi::Regs;
 use std::alloc::Global;
 
 /// A call that comes back.
@@ -58,13 +56,11 @@ fn arrival_of(alloc: Global, call: Option<NewCall>) -> Result<Arrival, NoMemory>
     }
 }
 
-/// What a new call with these registers is.
-fn new_arrival(alloc: Global, core: &Core, regs: &Regs, lane: &Lane) -> Result<Arrival, NoMemory>
-    ensures { (app : AnyApplication) (kernel : Kernel) → StandsFor core.now.parts kernel
-        → IfOk result (IsArrivalFrom (watch (booted_of core.now) app kernel) regs.now.a lane.now
-        (new_call (booted_of core.now) kernel regs.now.a)) }
+/// What a new call is that is planned.
+fn new_arrival(alloc: Global, planned: &PlannedCall) -> Result<Arrival, NoMemory>
+    ensures { IfOk result (λ arrival. arrival ≡ arrival_of (planned_call planned.now)) }
 {
-    let call = new_call_on(alloc, core, regs, lane)?;
+    let call = planned_call(planned)?;
     arrival_of(alloc, call)
 }
 
@@ -119,9 +115,9 @@ fn room_in(core: &Core, app: &Application, regs: &Regs) -> Option<bool>
 }
 
 /// What the call comes back as that these registers name, and that is given this.
-fn resumed_in(core: &Core, app: &Application, regs: &Regs, given: ResumeInput) -> Resumed
+fn resumed_in(core: &Core, app: &Application, regs: &Regs, given: &ResumeInput) -> Resumed
     requires { IsSuspended core.now.parts.slots regs.now.a }
-    ensures back { IsBackIn core.now.parts regs.now.a (given_as given) result.back }
+    ensures back { IsBackIn core.now.parts regs.now.a (given_as given.now) result.back }
     ensures room { IsRoomIn core.now.parts (application_of app.now) regs.now.a result.room }
 {
     let room = room_in(core, app, regs);
@@ -129,46 +125,24 @@ fn resumed_in(core: &Core, app: &Application, regs: &Regs, given: ResumeInput) -
     Resumed { back, room }
 }
 
-/// What a resume is.
-fn back_arrival(
-    alloc: Global,
-    core: &Core,
-    app: &Application,
-    regs: &Regs,
-    lane: &Lane,
-) -> Result<Arrival, NoMemory>
-    ensures { (kernel : Kernel) → StandsFor core.now.parts kernel
-        → IfOk result (IsArrivalFrom (watch (booted_of core.now) (application_of app.now) kernel) regs.now.a lane.now
-        (resume (booted_of core.now) kernel regs.now.a)) }
-{
-    let mut reads = Reads::new(alloc);
-    let (setup, slots) = (&core.parts.setup, &core.parts.slots);
-    let call = resumed_calls::decide(alloc, setup, slots, regs, lane, &mut reads)?;
-    match call {
-        Some(decided) => {
-            let resumed = Boxed::new(alloc, resumed_in(core, app, regs, decided.given))?;
-            Ok(Arrival::Back(resumed))
-        }
-        None => Ok(Arrival::Nothing),
-    }
-}
-
-/// What an entry with these registers is for a group of this application.
+/// What an entry with these registers is for a group of this application, which is prepared.
 pub(crate) fn arrival_on(
     alloc: Global,
     core: &Core,
     app: &Application,
     regs: &Regs,
-    lane: &Lane,
+    prepared: &Prepared,
 ) -> Result<Arrival, NoMemory>
-    ensures { (kernel : Kernel) → StandsFor core.now.parts kernel
-        → IfOk result (IsArrival (watch (booted_of core.now) (application_of app.now) kernel) regs.now.a lane.now) }
+    requires { WasPrepared core.now.parts regs.now.a prepared.now }
+    ensures { (lane : List ℕ) → IsPrepared core.now.parts regs.now.a lane prepared.now
+        → IfOk result (IsArrivalOn (application_of app.now) core.now regs.now.a lane) }
 {
-    match decode_call(regs) {
-        Call::WithArg | Call::WithRpcArg | Call::WithRegdArg => {
-            new_arrival(alloc, core, regs, lane)
+    match &prepared.decision {
+        EntryDecision::Answers(_) => Ok(Arrival::Nothing),
+        EntryDecision::Begins(planned) => new_arrival(alloc, planned),
+        EntryDecision::GoesOn(decided) => {
+            let resumed = Boxed::new(alloc, resumed_in(core, app, regs, &decided.given))?;
+            Ok(Arrival::Back(resumed))
         }
-        Call::Resume => back_arrival(alloc, core, app, regs, lane),
-        Call::Fast(_) | Call::Unknown => Ok(Arrival::Nothing),
     }
 }

@@ -1,5 +1,6 @@
 //! A group's notes, taken as events are done again.
 ghost use Rattle.instance_groups.specs.Meaning.{IsArrivalOn, meaning};
+ghost use Rattle.kernel_state.specs.Setup.{application_of};
 
 use crate::arriving::{Arrival, arrival_on};
 use crate::coming::note_entry;
@@ -11,7 +12,7 @@ use core_at_work::CoreAtWork;
 use group_model::{GroupEvent, GroupReply};
 use isolation::errand_of;
 use journal_notes::EventNotes;
-use kernel_entry::Visitor;
+use kernel_entry::{Prepared, Visitor};
 use kernel_state::{Core, Errand, Ran};
 use ns_ram::Lane;
 use smc_abi::Regs;
@@ -26,16 +27,16 @@ impl EventNotes for Notes {
 
     ghost meaning = { meaning };
 
-    ghost IsArrival = { λ notes core regs lane came. IsArrivalOn notes core regs lane came };
+    ghost IsArrival = { λ notes core regs lane came. IsArrivalOn (application_of notes.app) core regs lane came };
 
     fn arrival(
         &self,
         alloc: Global,
         core: &Core,
         regs: &Regs,
-        lane: &Lane,
+        prepared: &Prepared,
     ) -> Result<Arrival, NoMemory> {
-        arrival_on(alloc, core, &self.app, regs, lane)
+        arrival_on(alloc, core, &self.app, regs, prepared)
     }
 
     fn come_in(
