@@ -1,21 +1,26 @@
 //! What is done with a machine: its processors come in and go out, and RAM is written and shown.
-ghost use Rattle.std.specs.Prelude.{◌≡◌, ◌<◌, [], ◌∷◌, ◌↔◌, IfOk, IsTrue, length};
+ghost use Rattle.std.specs.Prelude.{◌≡◌, ℕ, ◌<◌, List, [], ◌∷◌, ◌↔◌, IfOk, IsTrue, Some, length};
 ghost use Rattle.core_at_work.specs.Panics.{panic_of};
 ghost use Rattle.core_machine.specs.Moving.{EntersAt, LeavesAt};
 ghost use Rattle.core_machine.specs.Standing.{CanCome, IsAt, begun};
 ghost use Rattle.core_machine.specs.declared.smc.Smc.TheVariants as smc;
 ghost use Rattle.kernel_model.specs.Application.{Booted};
+ghost use Rattle.kernel_model.specs.Exit.{Exited, exit};
 ghost use Rattle.kernel_state.specs.Meaning.{booted_of, events_of, is_inside, terms_of};
 ghost use Rattle.ns_ram.specs.Lane.{IsInRam, bytes_at};
+ghost use Rattle.ns_ram.specs.Writes.{lane_after};
+ghost use Rattle.page_set.specs.Pages.{StaysElsewhere};
 ghost use Rattle.play_model.specs.Play.{Play, lane_of, with_writes};
 
 use crate::machine::Machine;
 use crate::smc::Smc;
 use base::NoMemory;
 use core_at_work::{CoreAtWork, WentOut};
+use exit_pages::pages_of_exit;
 use kernel_entry::Visitor;
 use kernel_state::{Core, EnterRefusal};
 use ns_ram::{Lane, RAM_BYTES, RAM_START};
+use page_set::PageSet;
 use std::alloc::Global;
 
 impl Machine {
@@ -51,6 +56,19 @@ impl Machine {
         ensures terms { terms_of self.new.at_work.core ≡ terms_of self.old.at_work.core }
     {
         self.at_work.leave(cpu, &mut self.lanes[usize::from(cpu)])
+    }
+
+    /// The pages of RAM to which the exit of a processor that is inside can write.
+    pub fn pages_of_exit(&self, cpu: u8) -> PageSet
+        requires { CanCome self.now (smc.Leaves cpu) }
+        ensures stays { (boot : Booted) (play : Play) (exited : Exited) (lane : List ℕ) → IsAt boot play self.now
+            → exit play.kernel cpu ≡ Some exited → length lane ≡ 0x400000
+            → StaysElsewhere result lane (lane_after lane exited.writes) }
+        ensures long { (boot : Booted) (play : Play) (exited : Exited) (lane : List ℕ) → IsAt boot play self.now
+            → exit play.kernel cpu ≡ Some exited → length lane ≡ 0x400000
+            → length (lane_after lane exited.writes) ≡ 0x400000 }
+    {
+        pages_of_exit(self.at_work.outgoing(cpu))
     }
 
     /// Writes bytes to the RAM that a processor sees, as the normal world does at any time.

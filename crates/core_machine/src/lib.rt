@@ -19,6 +19,7 @@
 //!   same play;
 //! - `leave` brings it to the play's exit and answers the registers that this prints, and the code of the panic in
 //!   which the granted steps of its call have ended, if they did;
+//! - `pages_of_exit` gives pages outside of which the exit of a processor leaves its RAM as it was;
 //! - `write` makes the play's write; `show` lends the bytes that the play would show, and `ram` all of them;
 //!   `is_inside` tells who is inside;
 //! - `serve` takes a list of entries and exits, each processor's by turns (`CanAllCome`). All of it comes, and the
