@@ -67,7 +67,7 @@ impl Player {
     }
 
     /// A processor comes in.
-    fn enter(&mut self, alloc: Global, cpu: u8, steps: u32, regs: &[Reg; 8]) -> Result<(), Stop>
+    pub fn enter(&mut self, alloc: Global, cpu: u8, steps: u32, regs: &[Reg; 8]) -> Result<(), Stop>
         requires { CanComeIn self.old.machine cpu steps regs.now }
         ensures comes { (boot : Booted) (at : Position) → StandsAt boot at self.old
             → ComesIn boot at (visit_at at cpu steps regs.now) result self.new }
@@ -83,7 +83,7 @@ impl Player {
     }
 
     /// A processor goes out of the core, and is told nothing yet.
-    fn leave(&mut self, cpu: u8) -> Exit
+    pub fn leave(&mut self, cpu: u8) -> Exit
         requires { CanGoOut self.old.machine cpu }
         ensures leaves { (boot : Booted) (at : Position) → StandsAt boot at self.old → GoesOut boot at result.answer self.new }
         ensures panic { (boot : Booted) (at : Position) → StandsAt boot at self.old → result.panic ≡ panic_of at.play.kernel cpu }
