@@ -15,7 +15,7 @@ came-chosen true entry before = refl
 came-chosen false entry before = refl
 
 -- how it came in by the last entry among events is the last among how it came in
-came-folded : (cpu : ℕ) (before : Option Event) (events : List Event)
+pub came-folded : (cpu : ℕ) (before : Option Event) (events : List Event)
     → came_by (log.entered_last cpu before events) ≡ entered_last cpu (came_by before) events
 came-folded cpu before [] = refl
 came-folded cpu before (Entry came regs steps reads ∷ events) =

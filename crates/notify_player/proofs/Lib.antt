@@ -8,3 +8,4 @@ pub mod OfSignals
 pub mod Left
 pub mod Coming
 pub mod Stepping
+pub mod Watched

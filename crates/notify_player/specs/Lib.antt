@@ -1,3 +1,4 @@
 pub mod Asking
 pub mod Signalling
 pub mod Playing
+pub mod Watching

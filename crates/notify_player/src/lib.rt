@@ -15,6 +15,8 @@
 //!   the argument. It appends what it prints to the lines that it is lent, and tells the panic in which the call of its
 //!   exit has ended, if it did (`panic_at_exit`), or stops where the play does; at a refused entry it stays where it
 //!   was.
+//! - `play_watched_item` does what `play_item` does, and keeps before an exit what stood in pages outside of which the
+//!   exit and the desk leave that processor's RAM as it was (`AreKept`).
 //! - What an exit asks is read off the last entry of its processor, which the core's log tells (`last_entry` of
 //!   `event_log`), and which is the one that the play's definitions fold (`before-exit`): in a legal history a new call
 //!   reads nothing, or first its argument's head, which lies in RAM (`heads_come_first`).
@@ -23,6 +25,7 @@
 mod beginning;
 mod entered;
 mod player;
+mod watching;
 mod writing;
 
 pub use player::NotifyPlayer;

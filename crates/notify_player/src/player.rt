@@ -29,8 +29,8 @@ use word_parts::Stop;
 /// A player, and the desk that answers above its core.
 #[derive(Drop)]
 pub struct NotifyPlayer {
-    player: Player,
-    desk: Desk,
+    pub(crate) player: Player,
+    pub(crate) desk: Desk,
 }
 
 impl NotifyPlayer {
@@ -71,7 +71,12 @@ impl NotifyPlayer {
 
     /// A processor that has gone out is told the core's answer, or the desk's in its place, once the desk has written what it
     /// writes.
-    fn answer(&mut self, natives: &Natives, answered: Told, lines: &mut Vec<u8>) -> Result<(), Stop>
+    pub(crate) fn answer(
+        &mut self,
+        natives: &Natives,
+        answered: Told,
+        lines: &mut Vec<u8>,
+    ) -> Result<(), Stop>
         requires told { CanBeTold self.old.player.machine answered.cpu }
         requires desk { IsDeskOf (drivers natives.now) self.old.desk }
         ensures follows { (boot : Booted) (told : NotifyPlay) → HasGone boot (drivers natives.now) told answered self.old
