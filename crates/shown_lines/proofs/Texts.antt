@@ -1,5 +1,5 @@
 -- Texts to which a line more is appended.
-use Rattle.std.proofs.Common.{◌≡◌, ℕ, ◌+◌, ◌-◌, ◌*◌, ◌<◌, ◌≤◌, false, List, [], ◌∷◌, ◌++◌, length, take, drop, get_or, Option, Some, None, refl, suc, sym, ap, ap₂, ◌∙◌, append_assoc, append-nil, arith, inl, inr}
+use Rattle.std.proofs.Common.{◌≡◌, ℕ, ◌+◌, ◌-◌, ◌*◌, ◌<◌, ◌≤◌, false, true, List, [], ◌∷◌, ◌++◌, length, take, get_or, Option, Some, None, refl, suc, sym, ap, ap₂, ◌∙◌, append_assoc, append-nil, arith, inl, inr}
 use Rattle.std.specs.Prelude.{OnOk, Result, Ok, Err, codes, slice_get}
 use Rattle.std.specs.Fmt.{decimal}
 use Rattle.std.specs.List.{flat_map}
@@ -119,15 +119,19 @@ other_block cpu number before after was is old new there here other told =
     ∙ ap (λ (l : List ℕ). old ++ l) (sym (append-nil line))
     )
 
--- a block of so many bytes
-pub changed_block : {E : Type 0} (result : Result (Unit {0}) E) (cpu number len : ℕ) (before after old new : List ℕ) → len ≡ 64
-    → false ≡ bytes_eq (take len (drop (64 * number) before)) (take len (drop (64 * number) after))
-    → OnOk result (new ≡ old ++ wrote_line cpu (record { addr = 0x40000000 + 64 * number; bytes = take len (drop (64 * number) after) }))
+pub changed_block : {E : Type 0} (result : Result (Unit {0}) E) (cpu number : ℕ) (before after was is old new : List ℕ)
+    → was ≡ block_at before number → is ≡ block_at after number → false ≡ bytes_eq was is
+    → OnOk result (new ≡ old ++ wrote_line cpu (record { addr = 0x40000000 + 64 * number; bytes = is }))
     → OnOk result (new ≡ old ++ text_of_changes cpu (change_at before after number))
-changed_block (Ok done) cpu number len before after old new all other told =
-    other_block cpu number before after (take len (drop (64 * number) before)) (take len (drop (64 * number) after)) old new
-    (ap (λ n. take n (drop (64 * number) before)) all) (ap (λ n. take n (drop (64 * number) after)) all) (sym other) told
-changed_block (Err fault) cpu number len before after old new all other told = tt
+changed_block (Ok done) cpu number before after was is old new there here other told =
+    other_block cpu number before after was is old new there here (sym other) told
+changed_block (Err fault) cpu number before after was is old new there here other told = tt
+
+pub unchanged_block : (cpu number : ℕ) (before after was is old : List ℕ) → was ≡ block_at before number → is ≡ block_at after number
+    → true ≡ bytes_eq was is → old ≡ old ++ text_of_changes cpu (change_at before after number)
+unchanged_block cpu number before after was is old there here same =
+    let so : bytes_eq (block_at before number) (block_at after number) ≡ true = ap₂ bytes_eq (sym there) (sym here) ∙ sym same in
+    rw so (sym (append-nil old))
 
 -- ---- instances
 

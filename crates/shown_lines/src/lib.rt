@@ -12,7 +12,9 @@
 //! - `push_told` appends what the definitions of `live_play` give as the answer of a core to a question, of the kernel
 //!   that its events come to and of its history: its slots and which calls are masked, who is inside, its instances and
 //!   counts, a session, a registered buffer, or, of a core that keeps them (`CanTell`), events.
-//! - `push_changes` appends a line for each block of 64 bytes that isn't what it was, and `push_panic` that of a panic.
+//! - `push_changes` appends a line for each block of 64 bytes of RAM that isn't what it was. It looks at the pages alone
+//!   of which it was kept what they were, outside of which nothing has changed.
+//! - `push_panic` appends that of a panic.
 #![tactic(auto)]
 
 mod buffers;

@@ -1,7 +1,9 @@
-use Rattle.std.proofs.Common.{◌≡◌, ◌++◌}
-use Rattle.live_play.specs.Changes.{changes_below, text_of_changes}
+use Rattle.std.proofs.Common.{List, ℕ}
+use Rattle.page_set.specs.Keeping.{AreKept}
+use Rattle.shown_lines.proofs.Pages.{AreTold}
 use Rattle.shown_lines.proofs.changes.push_changes.Given as goal
 
-abbrev pub invariant-loop-number : goal.invariant-loop-number
-invariant-loop-number l =
-    l.text.items ≡ l.initial.text.items ++ text_of_changes l.cpu (changes_below l.number l.before l.after)
+abbrev pub invariant-loop-page : goal.invariant-loop-page
+invariant-loop-page l =
+    (before : List ℕ) → AreKept l.kept before l.after
+    → AreTold l.kept before l.after l.cpu l.page l.initial.text.items l.text.items l.left
