@@ -1,6 +1,6 @@
 -- An item and a signal more, played by a core that has come to the play of the lines so far.
 use Rattle.std.proofs.Common.{◌≡◌, ℕ, ◌≤◌, List, [], ◌∷◌, ◌++◌, length, Option, Some, None, refl, sym, ap, subst, ◌∙◌}
-use Rattle.std.specs.Prelude.{IfNone, IsTrue, Ok, Err}
+use Rattle.std.specs.Prelude.{IfNone, IsTrue, Ok, Err, slice_index_or}
 use Rattle.std.specs.List.{AllByRecursion}
 use Rattle.std.specs.Option.{option_and_then, option_map_or}
 use Rattle.std.proofs.lemmas.List.Elements.{recursion_from_All}
@@ -10,6 +10,7 @@ use Rattle.event_journal.specs.declared.event.Event.{Event}
 use Rattle.kernel_model.specs.Application.{Booted, Native, booted}
 use Rattle.kernel_state.specs.Meaning.{events_of}
 use Rattle.live_play.specs.Answer.{Platform, platform_within, play_at}
+use Rattle.live_play.specs.Showing.{cpu_out_by, lane_at}
 use Rattle.live_play.proofs.Effects.{AreOrderly}
 use Rattle.live_play.proofs.Steps.{AreWithin}
 use Rattle.live_play.proofs.Talking.{item_steps, more-played, printed_by, refused_by, signal_steps}
@@ -33,15 +34,36 @@ use Rattle.notify_text.specs.Rules.{NotifyFront}
 use Rattle.notify_text.specs.Sound.{IsSoundSignal}
 use Rattle.notify_text.specs.Steps.{Signals, Takes}
 use Rattle.notify_text.specs.declared.notify_trace.Signal.{Signal}
+use Rattle.page_set.specs.Keeping.{AreKept}
+use Rattle.page_set.specs.declared.kept.KeptPages.{KeptPages}
 use Rattle.play_model.specs.Line.{Line}
+use Rattle.play_model.specs.Play.{lane_of}
 use Rattle.play_model.proofs.Coming.{few_cpus}
 use Rattle.ta_isa.specs.declared.boot.Boot.{Boot}
+use Rattle.trace_player.specs.Items.{goes_out_by}
 use Rattle.trace_player.specs.Playing.{CanBeTaken}
 use Rattle.trace_player.proofs.Playable.{can_take}
 use Rattle.trace_text.specs.Limits.{cpus_of, inside_after, outside}
 use Rattle.trace_text.specs.Sound.{IsSoundItem, can_come}
 use Rattle.trace_text.specs.declared.item.Item.{Item}
+use Rattle.trace_text.specs.declared.item.Item.TheVariants as item
 use Rattle.word_parts.specs.declared.stop.Stop.TheVariants.{Full}
+
+-- ---- the RAM of a processor
+
+-- in a play of the lines
+pub lane_played : (on : Platform) (lines : NotifyFront) (cpu : ℕ) (told : NotifyPlay) → play_at on lines ≡ Some told
+    → lane_at on lines cpu ≡ lane_of told.play cpu
+lane_played on lines cpu told play =
+    ap (λ (o : Option NotifyPlay). slice_index_or (option_map_or (λ (n : NotifyPlay). n.play.lanes) o []) cpu []) play
+
+-- the processor that goes out by an item
+pub out_same : (i : Item) → goes_out_by i ≡ cpu_out_by i
+out_same (item.Smc cpu steps regs) = refl
+out_same (item.Enter cpu steps regs) = refl
+out_same (item.Leave cpu) = refl
+out_same (item.Write cpu addr bytes) = refl
+out_same (item.Show cpu addr len) = refl
 
 -- ---- the lines so far
 
@@ -126,6 +148,16 @@ module _ (most : ℕ) (natives : List Native) (drivers : Drivers) (lines : Notif
           stands = follows.2;
         };
       }
+
+  -- what was kept of the play before it is kept of the lines
+  pub item_kept : (i : Item) (before : NotifyPlayer) (after : NotifyPlay) (cpu : ℕ) (kept : KeptPages) → IsNext on lines (says.Item i)
+      → (p : IsPlayedBehind on lines before) → after_item (booted p.boot natives) drivers i p.told ≡ Some after
+      → AreKept kept (lane_of p.told.play cpu) (lane_of after.play cpu)
+      → AreKept kept (lane_at on lines cpu) (lane_at on (with_item i) cpu)
+  item_kept i before after cpu kept next p e are =
+      let is : play_at on (with_item i) ≡ Some after = item_played i before next p ∙ e in
+      subst (λ (l : List ℕ). AreKept kept l (lane_at on (with_item i) cpu)) (sym (lane_played on lines cpu p.told p.play))
+      (subst (λ (l : List ℕ). AreKept kept (lane_of p.told.play cpu) l) (sym (lane_played on (with_item i) cpu after is)) are)
 
   -- its entry was refused
   pub item_full : (i : Item) (before after : NotifyPlayer) (copied : ℕ) (old new : List ℕ) → IsNext on lines (says.Item i)

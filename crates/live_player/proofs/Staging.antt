@@ -19,6 +19,7 @@ use Rattle.live_player.specs.Header.{IsHeaderOf, boot_in, terms_where}
 use Rattle.live_player.specs.Panicking.{EndsIn, taken_as}
 use Rattle.live_player.specs.Standing.{CanBegin, IsOpen, IsPlayedBehind, StageAt}
 use Rattle.live_player.specs.Taking.{Answers, IsNext, IsPlaced, PlaysOn, StagePlays, counted, played}
+use Rattle.live_player.specs.Watching.{cpu_going_out}
 use Rattle.live_player.specs.declared.header.Header.{Header}
 use Rattle.live_player.specs.declared.stage.Stage.{Stage}
 use Rattle.live_player.specs.declared.stage.Stage.TheVariants as stage
@@ -296,6 +297,23 @@ unended_by on lines (says.Signal value) waiting = absurd waiting
 
 pub waits_unended : (on : Platform) (lines : NotifyFront) (said : Statement) → Waits said → EndsIn on lines said (outcome.Done None)
 waits_unended on lines said which = unended_by on lines said (waiting said which)
+
+-- nor any processor goes out
+stays_by : (said : Statement) (cpu : ℕ) → IsWaiting said → cpu_going_out said ≡ Some cpu → ⊥
+stays_by says.Blank cpu waiting out = cc
+stays_by (says.Boot size) cpu waiting out = cc
+stays_by (says.App app) cpu waiting out = cc
+stays_by (says.Fill fill) cpu waiting out = cc
+stays_by (says.Key key) cpu waiting out = cc
+stays_by (says.Item i) cpu waiting out = waiting
+stays_by (says.Signal value) cpu waiting out = cc
+
+pub waits_inside : (said : Statement) (cpu : ℕ) → Waits said → cpu_going_out said ≡ Some cpu → ⊥
+waits_inside said cpu which out = stays_by said cpu (waiting said which) out
+
+pub none_out : (said : Statement) (value cpu : ℕ) → said ≡ says.Signal value → cpu_going_out said ≡ Some cpu → ⊥
+none_out said value cpu is out =
+    let none : cpu_going_out (says.Signal value) ≡ Some cpu = subst (λ (s : Statement). cpu_going_out s ≡ Some cpu) is out in cc
 
 -- it is added there
 on_ok : {A E P Q : Type 0} (result : Result A E) → (P → Q) → OnOk result P → OnOk result Q

@@ -1,15 +1,12 @@
 -- A line that is taken where exits are watched.
-use Rattle.std.proofs.Common.{◌≡◌, ℕ, ◌<◌, List, [], ◌∷◌, ◌++◌, length, drop, Option, Some, None, refl, sym, ap, subst, ◌∙◌, arith, append_assoc, append-nil}
-use Rattle.std.specs.Prelude.{Err, slice_index_or}
+use Rattle.std.proofs.Common.{◌≡◌, ℕ, ◌<◌, List, [], ◌∷◌, ◌++◌, length, drop, Option, Some, None, refl, sym, ap, subst, ◌∙◌, append_assoc, append-nil}
+use Rattle.std.specs.Prelude.{Err}
 use Rattle.std.specs.List.{flat_map}
-use Rattle.std.specs.Option.{option_and_then, option_map_or}
+use Rattle.std.specs.Option.{option_and_then}
 use Rattle.std.proofs.Math.Seq.{drop-length}
-use Rattle.std.proofs.lemmas.List.{get_or-replicate}
 use Rattle.std.proofs.lemmas.List.Elements.{recursion_from_All}
-use Rattle.base.specs.Zeros.{zeros}
 use Rattle.core_machine.specs.Standing.{IsAt}
 use Rattle.core_machine.specs.declared.machine.Machine.{Machine}
-use Rattle.core_machine.proofs.Lanes.{all_bytes}
 use Rattle.kernel_model.specs.Application.{Booted, Native, booted}
 use Rattle.kernel_model.proofs.Parts.{some_of}
 use Rattle.line_port.specs.History as heard
@@ -21,22 +18,21 @@ use Rattle.live_play.specs.Panicking.{panic_between, panic_line}
 use Rattle.live_play.specs.Showing.{cpu_out_by, lane_at, lines_after, platform_at, watched_line}
 use Rattle.live_play.specs.State.{text_if}
 use Rattle.live_play.proofs.Outgoing.{lines-done, none_returned, one_returned, step_on}
-use Rattle.live_play.proofs.Talking.{answer_unless, item_steps, more-played, quiet, signal_steps, start}
+use Rattle.live_play.proofs.Talking.{answer_unless, item_steps, more-played, quiet, signal_steps}
 use Rattle.live_play.proofs.Watched.{unwatched-lines, watched-lines}
 use Rattle.live_player.specs.Watching.{AnswersWatched, CanWatch, TakesWatched, Watches, WatchesOn, cpu_going_out}
 use Rattle.live_player.specs.Panicking.{EndsIn}
 use Rattle.live_player.specs.Standing.{HasCome, IsOpen, IsPlayedBehind, IsWithin, StageAt, StandsAt}
 use Rattle.live_player.specs.Taking.{Answers, IsNext, Judges, TakesOn, answer_behind, counted}
 use Rattle.live_text.specs.Rules.{LiveFront}
-use Rattle.live_player.specs.declared.header.Header.{Header}
 use Rattle.live_player.specs.declared.player.LivePlayer.{LivePlayer}
 use Rattle.live_player.specs.declared.stage.Stage.{Stage}
 use Rattle.live_player.specs.declared.stage.Stage.TheVariants as stage
 use Rattle.live_player.specs.declared.taken.Played.TheVariants as outcome
 use Rattle.live_player.specs.declared.taken.Taken.{Taken}
 use Rattle.live_player.specs.declared.taken.Taken.TheVariants as taken
-use Rattle.live_player.proofs.Playing.{orderly}
-use Rattle.live_player.proofs.Staging.{begun, boot_by, closed_item, closed_signal, header_of, stage_going}
+use Rattle.live_player.proofs.Playing.{lane_played, orderly}
+use Rattle.live_player.proofs.Staging.{boot_by, closed_item, closed_signal, header_of, stage_going}
 use Rattle.live_player.proofs.Taking.{Says, answer_said, behind_said, told_said}
 use Rattle.live_player.proofs.Walking.{last_sound}
 use Rattle.notify_text.specs.Statement.{with_statement}
@@ -46,9 +42,8 @@ use Rattle.notify_play.specs.NotifyPlay.{Drivers, NotifyPlay}
 use Rattle.notify_player.specs.declared.player.NotifyPlayer.{NotifyPlayer}
 use Rattle.notify_text.specs.Rules.{NotifyFront}
 use Rattle.notify_text.specs.Steps.{Signals, Takes}
-use Rattle.ns_ram.specs.Lane.{bytes_at}
 use Rattle.play_model.specs.Line.{Line, Ret, text_of_line}
-use Rattle.play_model.specs.Play.{Play, filled, lane_of}
+use Rattle.play_model.specs.Play.{Play, lane_of}
 use Rattle.ta_isa.specs.declared.boot.Boot.{Boot}
 use Rattle.trace_text.specs.Limits.{cpus_of}
 use Rattle.trace_text.specs.Sound.{IsSoundItem}
@@ -56,15 +51,8 @@ use Rattle.trace_text.specs.declared.fault.LineFault.{LineFault}
 use Rattle.trace_text.specs.declared.fault.LineFault.TheVariants.{Broken, NoRoom}
 use Rattle.trace_text.specs.declared.item.Item.{Item}
 use Rattle.trace_text.specs.declared.item.Item.TheVariants as item
-use Rattle.trace_text.specs.declared.trace.Fill.{Fill}
 
 -- ---- the RAM that is watched
-
--- in a play of the lines
-pub lane_played : (on : Platform) (lines : NotifyFront) (cpu : ℕ) (told : NotifyPlay) → play_at on lines ≡ Some told
-    → lane_at on lines cpu ≡ lane_of told.play cpu
-lane_played on lines cpu told play =
-    ap (λ (o : Option NotifyPlay). slice_index_or (option_map_or (λ (n : NotifyPlay). n.play.lanes) o []) cpu []) play
 
 -- a player lends that of the processor
 pub ram_lent : (on : Platform) (lines : NotifyFront) (cpu : ℕ) (player : NotifyPlayer) (machine : Machine) (ram : List ℕ)
@@ -74,29 +62,6 @@ ram_lent on lines cpu player machine ram is lent behind =
     let boot : Booted = booted behind.boot on.natives in
     lent boot behind.told.play (subst (IsAt boot behind.told.play) (sym is) behind.stands.at.machine)
     ∙ sym (lane_played on lines cpu behind.told behind.play)
-
--- and before the first item it is that of the fills
-pub header_lane : (on : Platform) (lines : NotifyFront) (cpu : ℕ) (header : Header)
-    → CanWatch on lines cpu (stage.Header header)
-    → filled (zeros 0x400000) header.fills.items ≡ lane_at on lines cpu
-header_lane on lines cpu header can = sym (by lines.trace.boot refl can.there)
-  where
-    by : (boot : Option Boot) → lines.trace.boot ≡ boot → cpu < cpus_of boot
-        → lane_at on lines cpu ≡ filled (zeros 0x400000) header.fills.items
-    by None is few = absurd (omega (arith, few))
-    by (Some boot) is few =
-        lane_played on lines cpu (start on boot lines) (begun on boot lines is can.stage_at.1)
-        ∙ get_or-replicate boot.cpus cpu (filled on.ram lines.trace.fills) [] few
-        ∙ ap (λ (ram : List ℕ). filled ram lines.trace.fills) can.ram
-        ∙ ap (λ (fills : List Fill). filled (zeros 0x400000) fills) (sym can.stage_at.0.fills)
-
--- a copy of all of that
-pub header_copied : (on : Platform) (lines : NotifyFront) (cpu : ℕ) (header : Header) (lane ram none copy : List ℕ)
-    → CanWatch on lines cpu (stage.Header header) → lane ≡ filled (zeros 0x400000) header.fills.items
-    → length lane ≡ 0x400000 → ram ≡ bytes_at lane 0x40000000 0x400000 → none ≡ [] → copy ≡ none ++ ram
-    → copy ≡ lane_at on lines cpu
-header_copied on lines cpu header lane ram none copy can is whole read cleared copied =
-    copied ∙ ap (λ (l : List ℕ). l ++ ram) cleared ∙ read ∙ all_bytes lane whole ∙ is ∙ header_lane on lines cpu header can
 
 -- ---- the processor that goes out
 
@@ -129,17 +94,7 @@ cpu_there on lines i cpu out next =
     (last_sound cpus lines.trace.items i
     (recursion_from_All (IsSoundItem cpus) (lines.trace.items ++ i ∷ []) next.next.sound.items)) out
 
--- before it
-pub can_watch : (most : ℕ) (natives : List Native) (drivers : Drivers) (lines : NotifyFront) (said : Statement) (cpu : ℕ) (now : Stage)
-    → cpu_going_out said ≡ Some cpu → IsNext (platform_within most natives drivers) lines said
-    → StageAt (platform_within most natives drivers) lines now → CanWatch (platform_within most natives drivers) lines cpu now
-can_watch most natives drivers lines said cpu now out next at =
-    let on : Platform = platform_within most natives drivers in
-    let goes = going_out said cpu out in
-    let placed : IsNext on lines (says.Item goes.0) = subst (IsNext on lines) goes.1 next in
-    record { ram = refl; within = next.within; stage_at = at; there = cpu_there on lines goes.0 cpu goes.2 placed }
-
--- and behind it
+-- behind it
 pub can_still_watch : (most : ℕ) (natives : List Native) (drivers : Drivers) (lines : NotifyFront) (said : Statement) (cpu : ℕ) (now : Stage)
     → cpu_going_out said ≡ Some cpu → IsNext (platform_within most natives drivers) lines said
     → StageAt (platform_within most natives drivers) (with_statement lines said) now
@@ -151,7 +106,6 @@ can_still_watch most natives drivers lines said cpu now out next at =
     let same : (with_statement lines said).trace.boot ≡ lines.trace.boot =
     ap (λ (s : Statement). (with_statement lines s).trace.boot) goes.1 in
     record {
-      ram = refl;
       within = next.next;
       stage_at = at;
       there = subst (λ (o : Option Boot). cpu < cpus_of o) (sym same) (cpu_there on lines goes.0 cpu goes.2 placed);

@@ -1,24 +1,19 @@
 //! What the lines of the header say, and what a core is booted with.
 
-ghost use Rattle.std.specs.Prelude.{◌≡◌, ℕ, ◌^◌, ◌≤◌, All, IfOk, OnOk, true, false};
-ghost use Rattle.base.specs.Zeros.{zeros};
+ghost use Rattle.std.specs.Prelude.{◌≡◌, ℕ, ◌^◌, ◌≤◌, IfOk, OnOk, true, false};
 ghost use Rattle.live_play.specs.Answer.{platform_within};
 ghost use Rattle.live_player.specs.Header.{IsHeaderOf, boot_in, terms_where};
 ghost use Rattle.live_player.specs.Standing.{CanBegin, IsPlayedBehind};
 ghost use Rattle.notify_text.specs.Statement.{with_statement};
 ghost use Rattle.native_tas.specs.Table.{drivers, entries};
 ghost use Rattle.notify_text.specs.Rules.{NotifyFront, no_lines};
-ghost use Rattle.play_model.specs.Play.{filled};
 ghost use Rattle.trace_player.specs.Playing.{terms_in};
-ghost use Rattle.trace_text.specs.Sound.{IsSoundFill};
 
 use base::NoMemory;
 use core_at_work::core_on;
-use core_machine::first_lane;
 use kernel_state::Terms;
 use native_tas::Natives;
 use notify_player::NotifyPlayer;
-use ns_ram::Lane;
 use std::alloc::{AllocError, Global};
 use ta_isa::{App, Boot};
 use trace_text::limits::{KEY_BYTES, Size, boot_of};
@@ -99,14 +94,6 @@ impl Header {
         ensures { IfOk result (λ boot. boot ≡ boot_in self.now) }
     {
         Ok(boot_of(self.size, self.apps.as_slice().to_vec(alloc)?, self.key))
-    }
-
-    /// The RAM that each processor sees at first.
-    pub(crate) fn first_lane(&self, alloc: Global) -> Result<Lane, NoMemory>
-        requires { All IsSoundFill self.now.fills.items }
-        ensures { IfOk result (λ lane. lane ≡ filled (zeros 0x400000) self.now.fills.items) }
-    {
-        first_lane(alloc, self.fills.as_slice())
     }
 
     /// A player on a core of the boot, before the first step. The header stays, since its lines count on where the first

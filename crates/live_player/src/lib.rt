@@ -21,7 +21,8 @@
 //!   stood, so that at the first entry lines of the header may follow; or the line breaks a rule, by its name, which
 //!   changes nothing. Of want of memory nothing is said, behind which the player is done with.
 //! - `take_watched_line` does the same (`Watches`), and appends behind the line of an exit that of the panic in which
-//!   its call has ended, if it did, and those of all that it has changed in its processor's RAM.
+//!   its call has ended, if it did, and those of all that it has changed in its processor's RAM, which is compared in the pages alone to
+//!   which the exit could write (`Watch`).
 //! - `push_told` appends what is told of the play of these lines to a question (`answer_at`), with a boot among them,
 //!   and changes nothing.
 //! - The core's terms are those of the lines (`terms_where`): where history is off it counts its events, and its
@@ -33,7 +34,9 @@ mod player;
 mod stage;
 mod taken;
 mod telling;
+mod watch;
 mod watching;
 
 pub use player::LivePlayer;
 pub use taken::Taken;
+pub use watch::Watch;

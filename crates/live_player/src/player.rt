@@ -1,10 +1,11 @@
-ghost use Rattle.std.specs.Prelude.{◌≡◌, ◌++◌, List, IfOk, None, OnOk, is_some, not, true};
+ghost use Rattle.std.specs.Prelude.{◌≡◌, ℕ, ◌++◌, List, IfOk, None, OnOk, Some, is_some, not, true};
 ghost use Rattle.kernel_model.specs.Application.{Native};
 ghost use Rattle.live_play.specs.Answer.{Platform, platform};
 ghost use Rattle.live_play.specs.Showing.{platform_at, answer_at};
 ghost use Rattle.live_player.specs.Panicking.{EndsIn, taken_as};
 ghost use Rattle.live_player.specs.Standing.{HasCome, StandsAt};
 ghost use Rattle.live_player.specs.Taking.{IsNext, Judges, TakesOn};
+ghost use Rattle.live_player.specs.Watching.{KeepsFor, cpu_going_out};
 ghost use Rattle.live_text.specs.Rules.{LiveFront, no_lines, without_history};
 ghost use Rattle.live_text.specs.Scene.{IsSceneOf};
 ghost use Rattle.native_tas.specs.Table.{drivers, entries};
@@ -15,6 +16,7 @@ ghost use Rattle.trace_text.specs.Statement.{HasFewCpus};
 use crate::header::Header;
 use crate::stage::Stage;
 use crate::taken::{Played, Taken};
+use crate::watch::Watch;
 use base::NoMemory;
 use live_text::{LiveLine, Question, Scene, lines_stay_sound, read_line};
 use native_tas::Natives;
@@ -47,6 +49,7 @@ impl LivePlayer {
         alloc: Global,
         natives: &Natives,
         said: Statement,
+        watch: &mut Watch,
         text: &mut Vec<u8>,
     ) -> Result<Played, NoMemory>
         requires few { HasFewCpus said }
@@ -62,8 +65,14 @@ impl LivePlayer {
             → IsNext (platform_at (platform (entries natives.now) (drivers natives.now)) lines) lines.told said
             → HasCome (platform (entries natives.now) (drivers natives.now)) lines self.old
             → IfOk result (λ how. EndsIn (platform_at (platform (entries natives.now) (drivers natives.now)) lines) lines.told said how) }
+        ensures kept { (cpu : ℕ) (lines : LiveFront)
+            → IsNext (platform_at (platform (entries natives.now) (drivers natives.now)) lines) lines.told said
+            → HasCome (platform (entries natives.now) (drivers natives.now)) lines self.old
+            → watch.old.is_on ≡ true → cpu_going_out said ≡ Some cpu
+            → IfOk result (KeepsFor (platform_at (platform (entries natives.now) (drivers natives.now)) lines) lines.told said cpu
+            watch.new.kept) }
     {
-        match self.stage.play(alloc, natives, &said, text)? {
+        match self.stage.play(alloc, natives, &said, watch, text)? {
             Played::Done(panic) => {
                 self.scene.take(&said)?;
                 self.stage.add(said)?;
@@ -71,6 +80,28 @@ impl LivePlayer {
             }
             Played::Full(copied) => Ok(Played::Full(copied)),
         }
+    }
+
+    /// Takes what a line says that keeps its rules, where exits aren't watched.
+    fn take_unwatched(
+        &mut self,
+        alloc: Global,
+        natives: &Natives,
+        said: Statement,
+        text: &mut Vec<u8>,
+    ) -> Result<Played, NoMemory>
+        requires few { HasFewCpus said }
+        requires next { (lines : LiveFront)
+            × IsNext (platform_at (platform (entries natives.now) (drivers natives.now)) lines) lines.told said
+            × HasCome (platform (entries natives.now) (drivers natives.now)) lines self.old }
+        ensures { (lines : LiveFront)
+            → IsNext (platform_at (platform (entries natives.now) (drivers natives.now)) lines) lines.told said
+            → HasCome (platform (entries natives.now) (drivers natives.now)) lines self.old
+            → IfOk result (λ how. TakesOn (platform (entries natives.now) (drivers natives.now)) lines said (taken_as how)
+            self.new text.old.items text.new.items) }
+    {
+        let mut unwatched = Watch::new(alloc);
+        self.take(alloc, natives, said, &mut unwatched, text)
     }
 
     /// From here on history is off. No boot is among the lines.
@@ -99,7 +130,7 @@ impl LivePlayer {
     {
         lines_stay_sound();
         match read_line(alloc, natives.uuids().as_slice(), &self.scene, line)? {
-            LiveLine::Says(said) => match self.take(alloc, natives, said, text) {
+            LiveLine::Says(said) => match self.take_unwatched(alloc, natives, said, text) {
                 Ok(how) => Ok(how.taken()),
                 Err(NoMemory) => Err(LineFault::NoRoom),
             },

@@ -1,25 +1,31 @@
 //! What the lines so far have come to: a header, or what a core has played.
 
-ghost use Rattle.std.specs.Prelude.{◌≡◌, ℕ, ◌^◌, ◌≤◌, List, ◌∷◌, IfOk, IsOk, OnOk, true};
+ghost use Rattle.std.specs.Prelude.{◌≡◌, ℕ, ◌^◌, ◌≤◌, List, ◌∷◌, Err, IfOk, IsOk, OnOk, Some, true};
 ghost use Rattle.kernel_model.specs.Application.{Booted};
 ghost use Rattle.live_play.specs.Answer.{Platform, platform_within};
-ghost use Rattle.live_play.specs.Showing.{within};
+ghost use Rattle.live_play.specs.Showing.{cpu_out_by, within};
 ghost use Rattle.live_player.specs.Header.{terms_where};
 ghost use Rattle.live_player.specs.Panicking.{EndsIn, taken_as};
 ghost use Rattle.live_player.specs.Standing.{IsOpen, IsPlayedBehind, StageAt, terms_on};
 ghost use Rattle.live_player.specs.Taking.{IsNext, IsPlaced, PlaysOn, StagePlays, played};
+ghost use Rattle.live_player.specs.Watching.{KeepsFor, cpu_going_out};
 ghost use Rattle.live_player.specs.declared.taken.Taken.TheVariants as taken;
 ghost use Rattle.notify_text.specs.Statement.{with_statement};
 ghost use Rattle.trace_text.specs.declared.statement.Statement.TheVariants as says;
 ghost use Rattle.native_tas.specs.Table.{drivers, entries};
+ghost use Rattle.notif.specs.Desk.{IsDeskOf};
 ghost use Rattle.notif.specs.History as desk;
-ghost use Rattle.notify_play.specs.NotifyPlay.{Drivers, NotifyPlay};
-ghost use Rattle.notify_player.specs.Playing.{IsPlayedTo};
+ghost use Rattle.notify_play.specs.NotifyPlay.{Drivers, NotifyPlay, after_item};
+ghost use Rattle.notify_player.specs.Playing.{Follows, IsPlayedTo, position_in, without_panic};
 ghost use Rattle.notify_text.specs.Rules.{NotifyFront};
-ghost use Rattle.trace_player.specs.Playing.{terms_in};
+ghost use Rattle.page_set.specs.Keeping.{AreKept};
+ghost use Rattle.play_model.specs.Play.{lane_of};
+ghost use Rattle.trace_player.specs.Items.{goes_out_by, panic_at_exit};
+ghost use Rattle.trace_player.specs.Playing.{CanBeTaken, terms_in};
 
 use crate::header::Header;
 use crate::taken::Played;
+use crate::watch::Watch;
 use base::NoMemory;
 use core_machine::machines_stand;
 use native_tas::Natives;
@@ -39,12 +45,43 @@ pub(crate) enum Stage {
     Core(NotifyPlayer),
 }
 
+/// Plays an item, watched where that is wanted.
+fn play_so(
+    player: &mut NotifyPlayer,
+    alloc: Global,
+    natives: &Natives,
+    item: &Item,
+    watch: &mut Watch,
+    text: &mut Vec<u8>,
+) -> Result<Option<u32>, Stop>
+    requires can { CanBeTaken player.old.player.machine item.now }
+    requires desk { IsDeskOf (drivers natives.now) player.old.desk }
+    ensures follows { (boot : Booted) (told : NotifyPlay) → IsPlayedTo boot (drivers natives.now) told player.old
+        → Follows boot (drivers natives.now) told (after_item boot (drivers natives.now) item.now told)
+        (without_panic result) player.new text.old.items text.new.items }
+    ensures panic { (boot : Booted) (told : NotifyPlay) → IsPlayedTo boot (drivers natives.now) told player.old
+        → IfOk result (λ panic. panic ≡ panic_at_exit boot (position_in told) item.now) }
+    ensures never_fails { result ≡ Err Stop.Failed → ⊥ }
+    ensures terms { terms_in player.new.player ≡ terms_in player.old.player }
+    ensures kept { (boot : Booted) (told next : NotifyPlay) (cpu : ℕ) → watch.old.is_on ≡ true
+        → IsPlayedTo boot (drivers natives.now) told player.old → goes_out_by item.now ≡ Some cpu
+        → after_item boot (drivers natives.now) item.now told ≡ Some next
+        → OnOk result (AreKept watch.new.kept (lane_of told.play cpu) (lane_of next.play cpu)) }
+{
+    if watch.is_on {
+        player.play_watched_item(alloc, natives, item, &mut watch.kept, text)
+    } else {
+        player.play_item(alloc, natives, item, text)
+    }
+}
+
 /// Plays an item, appends what it prints, and tells the panic in which the call of its exit has ended, if it did.
 fn play_on(
     player: &mut NotifyPlayer,
     alloc: Global,
     natives: &Natives,
     item: &Item,
+    watch: &mut Watch,
     text: &mut Vec<u8>,
 ) -> Result<Played, NoMemory>
     requires { (most : ℕ) × (lines : NotifyFront)
@@ -59,10 +96,16 @@ fn play_on(
         → IsPlayedBehind (platform_within most (entries natives.now) (drivers natives.now)) lines player.old
         → IfOk result (λ how. EndsIn (platform_within most (entries natives.now) (drivers natives.now)) lines (says.Item item.now) how) }
     ensures terms { terms_in player.new.player ≡ terms_in player.old.player }
+    ensures kept { (most cpu : ℕ) (lines : NotifyFront)
+        → IsNext (platform_within most (entries natives.now) (drivers natives.now)) lines (says.Item item.now)
+        → IsPlayedBehind (platform_within most (entries natives.now) (drivers natives.now)) lines player.old
+        → watch.old.is_on ≡ true → cpu_out_by item.now ≡ Some cpu
+        → IfOk result (KeepsFor (platform_within most (entries natives.now) (drivers natives.now)) lines (says.Item item.now)
+        cpu watch.new.kept) }
 {
     machines_stand();
     desks_keep_their_drivers();
-    match player.play_item(alloc, natives, item, text) {
+    match play_so(player, alloc, natives, item, watch, text) {
         Ok(panic) => Ok(Played::Done(panic)),
         Err(Stop::Full) => Ok(Played::Full(player.machine().core().copied())),
         Err(Stop::Failed | Stop::Memory) => Err(NoMemory),
@@ -89,6 +132,7 @@ impl Stage {
         alloc: Global,
         natives: &Natives,
         item: &Item,
+        watch: &mut Watch,
         text: &mut Vec<u8>,
     ) -> Result<Played, NoMemory>
         requires { (most : ℕ) × (lines : NotifyFront)
@@ -105,12 +149,18 @@ impl Stage {
             → IfOk result (λ how. EndsIn (platform_within most (entries natives.now) (drivers natives.now)) lines
             (says.Item item.now) how) }
         ensures terms { IsOk result → terms_on self.new ≡ terms_on self.old }
+        ensures kept { (most cpu : ℕ) (lines : NotifyFront)
+            → IsNext (platform_within most (entries natives.now) (drivers natives.now)) lines (says.Item item.now)
+            → StageAt (platform_within most (entries natives.now) (drivers natives.now)) lines self.old
+            → watch.old.is_on ≡ true → cpu_out_by item.now ≡ Some cpu
+            → IfOk result (KeepsFor (platform_within most (entries natives.now) (drivers natives.now)) lines (says.Item item.now)
+            cpu watch.new.kept) }
     {
         match self {
-            Stage::Core(player) => play_on(player, alloc, natives, item, text),
+            Stage::Core(player) => play_on(player, alloc, natives, item, watch, text),
             Stage::Header(header) => {
                 let mut player = header.first_player(alloc, natives)?;
-                let how = play_on(&mut player, alloc, natives, item, text)?;
+                let how = play_on(&mut player, alloc, natives, item, watch, text)?;
                 match how {
                     Played::Done(_) => {
                         *self = Stage::Core(player);
@@ -155,6 +205,7 @@ impl Stage {
         alloc: Global,
         natives: &Natives,
         said: &Statement,
+        watch: &mut Watch,
         text: &mut Vec<u8>,
     ) -> Result<Played, NoMemory>
         requires { (most : ℕ) × (lines : NotifyFront)
@@ -170,9 +221,15 @@ impl Stage {
             → StageAt (platform_within most (entries natives.now) (drivers natives.now)) lines self.old
             → IfOk result (λ how. EndsIn (platform_within most (entries natives.now) (drivers natives.now)) lines said.now how) }
         ensures terms { IsOk result → terms_on self.new ≡ terms_on self.old }
+        ensures kept { (most cpu : ℕ) (lines : NotifyFront)
+            → IsNext (platform_within most (entries natives.now) (drivers natives.now)) lines said.now
+            → StageAt (platform_within most (entries natives.now) (drivers natives.now)) lines self.old
+            → watch.old.is_on ≡ true → cpu_going_out said.now ≡ Some cpu
+            → IfOk result (KeepsFor (platform_within most (entries natives.now) (drivers natives.now)) lines said.now cpu
+            watch.new.kept) }
     {
         match said {
-            Statement::Item(item) => self.play_item(alloc, natives, item, text),
+            Statement::Item(item) => self.play_item(alloc, natives, item, watch, text),
             Statement::Signal(value) => {
                 self.signal(alloc, natives, *value)?;
                 Ok(Played::Done(None))

@@ -1,6 +1,6 @@
 //! Exits that are watched: the panics in which their calls end, and what they change in their processor's RAM.
 
-ghost use Rattle.std.specs.Prelude.{◌≡◌, ◌++◌, IfOk, OnOk, length};
+ghost use Rattle.std.specs.Prelude.{◌≡◌, ℕ, ◌++◌, List, IfOk, OnOk, length};
 ghost use Rattle.live_play.specs.Answer.{Platform, platform};
 ghost use Rattle.live_play.specs.Changes.{changes, text_of_changes};
 ghost use Rattle.live_play.specs.Showing.{cpu_out_by, lane_at, platform_at};
@@ -10,17 +10,19 @@ ghost use Rattle.live_player.specs.Taking.{IsNext};
 ghost use Rattle.live_text.specs.Rules.{LiveFront};
 ghost use Rattle.native_tas.specs.Table.{drivers, entries};
 ghost use Rattle.notify_text.specs.Rules.{NotifyFront};
+ghost use Rattle.page_set.specs.Keeping.{AreKept};
 ghost use Rattle.trace_player.specs.Playing.{HasLane};
 ghost use Rattle.trace_text.specs.Statement.{HasFewCpus};
 
 use crate::player::LivePlayer;
 use crate::stage::Stage;
 use crate::taken::{Played, Taken};
+use crate::watch::Watch;
 use base::NoMemory;
 use live_text::{LiveLine, lines_stay_sound, read_line};
 use native_tas::Natives;
 use notify_player::NotifyPlayer;
-use ns_ram::{RAM_BYTES, RAM_START};
+use page_set::KeptPages;
 use shown_lines::{push_changes, push_panic};
 use std::alloc::{AllocError, Global};
 use trace_text::{Item, LineFault, Statement};
@@ -61,44 +63,23 @@ fn ram_of(player: &NotifyPlayer, cpu: u8) -> &[u8]
 }
 
 impl Stage {
-    /// Copies the RAM that a processor sees, in place of what the copy has held.
-    pub(crate) fn copy_ram(
-        &self,
-        alloc: Global,
-        cpu: u8,
-        copy: &mut Vec<u8>,
-    ) -> Result<(), NoMemory>
-        requires { (on : Platform) × (lines : NotifyFront) × CanWatch on lines cpu self.now }
-        ensures lane { (on : Platform) (lines : NotifyFront) → CanWatch on lines cpu self.now
-            → OnOk result (copy.new.items ≡ lane_at on lines cpu) }
-        ensures len { OnOk result (length copy.new.items ≡ 0x400000) }
-    {
-        copy.clear();
-        match self {
-            Stage::Core(player) => Ok(copy.extend_from_slice(ram_of(player, cpu))?),
-            Stage::Header(header) => {
-                let lane = header.first_lane(alloc)?;
-                Ok(copy.extend_from_slice(lane.at(RAM_START, RAM_BYTES))?)
-            }
-        }
-    }
-
-    /// Appends what is other in a processor's RAM than in this copy, where an item has come or a signal.
+    /// Appends what is other in a processor's RAM than it was where it was kept, where an item has come or a signal.
     pub(crate) fn push_changes(
         &self,
         alloc: Global,
         cpu: u8,
-        copy: &[u8],
+        kept: &KeptPages,
         text: &mut Vec<u8>,
     ) -> Result<(), AllocError>
-        requires watched { (on : Platform) × (lines : NotifyFront) × CanWatch on lines cpu self.now }
-        requires copy { length copy.now ≡ 0x400000 }
-        ensures { (on : Platform) (lines : NotifyFront) → CanWatch on lines cpu self.now → (IsOpen lines → ⊥)
+        requires { (on : Platform) × (lines : NotifyFront) × (before : List ℕ) × CanWatch on lines cpu self.now
+            × AreKept kept.now before (lane_at on lines cpu) }
+        ensures { (on : Platform) (lines : NotifyFront) (before : List ℕ) → CanWatch on lines cpu self.now → (IsOpen lines → ⊥)
+            → AreKept kept.now before (lane_at on lines cpu)
             → OnOk result (text.new.items
-            ≡ text.old.items ++ text_of_changes cpu (changes copy.now (lane_at on lines cpu))) }
+            ≡ text.old.items ++ text_of_changes cpu (changes before (lane_at on lines cpu))) }
     {
         match self {
-            Stage::Core(player) => push_changes(alloc, text, cpu, copy, ram_of(player, cpu)),
+            Stage::Core(player) => push_changes(alloc, text, cpu, kept, ram_of(player, cpu)),
             Stage::Header(_) => Ok(()),
         }
     }
@@ -106,13 +87,13 @@ impl Stage {
 
 impl LivePlayer {
     /// Takes a line, as `take_line` does, and appends behind the line of an exit the panic in which its call has ended, if it did,
-    /// and what it has changed in its processor's RAM. `copy` is room for what that was before.
+    /// and what it has changed in its processor's RAM. `watch` is room for what that was before where the exit can write.
     pub fn take_watched_line(
         &mut self,
         alloc: Global,
         natives: &Natives,
         line: &[u8],
-        copy: &mut Vec<u8>,
+        watch: &mut Watch,
         text: &mut Vec<u8>,
     ) -> Result<Taken, LineFault>
         requires { (lines : LiveFront) × StandsAt (platform (entries natives.now) (drivers natives.now)) lines self.old }
@@ -122,7 +103,7 @@ impl LivePlayer {
     {
         lines_stay_sound();
         match read_line(alloc, natives.uuids().as_slice(), &self.scene, line)? {
-            LiveLine::Says(said) => match self.take_watched(alloc, natives, said, copy, text) {
+            LiveLine::Says(said) => match self.take_watched(alloc, natives, said, watch, text) {
                 Ok(taken) => Ok(taken),
                 Err(NoMemory) => Err(LineFault::NoRoom),
             },
@@ -139,7 +120,7 @@ impl LivePlayer {
         alloc: Global,
         natives: &Natives,
         said: Statement,
-        copy: &mut Vec<u8>,
+        watch: &mut Watch,
         text: &mut Vec<u8>,
     ) -> Result<Taken, NoMemory>
         requires few { HasFewCpus said }
@@ -153,13 +134,13 @@ impl LivePlayer {
             self.new text.old.items text.new.items) }
     {
         let Some(cpu) = cpu_going_out(&said) else {
-            return Ok(self.take(alloc, natives, said, text)?.taken());
+            return Ok(self.take(alloc, natives, said, watch, text)?.taken());
         };
-        self.stage.copy_ram(alloc, cpu, copy)?;
-        match self.take(alloc, natives, said, text)? {
+        watch.is_on = true;
+        match self.take(alloc, natives, said, watch, text)? {
             Played::Done(panic) => {
                 push_panic(alloc, text, panic)?;
-                self.stage.push_changes(alloc, cpu, copy.as_slice(), text)?;
+                self.stage.push_changes(alloc, cpu, &watch.kept, text)?;
                 Ok(Taken::Done)
             }
             Played::Full(copied) => Ok(Taken::Full(copied)),

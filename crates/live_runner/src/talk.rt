@@ -12,7 +12,7 @@ ghost use Rattle.notify_play.specs.NotifyPlay.{Drivers};
 
 use crate::ending::{push_bad, push_done, push_fault, push_full, push_too_long};
 use line_port::Heard;
-use live_player::{LivePlayer, Taken};
+use live_player::{LivePlayer, Taken, Watch};
 use live_text::{Question, read_question};
 use native_tas::Natives;
 use std::alloc::{AllocError, Global};
@@ -27,7 +27,7 @@ pub(crate) struct Talk {
     pub(crate) line: Vec<u8>,
     pub(crate) answer: Vec<u8>,
     /// Room for what a processor's RAM was before its exit.
-    copy: Vec<u8>,
+    watch: Watch,
 }
 
 impl Talk {
@@ -40,7 +40,7 @@ impl Talk {
             is_watching: false,
             line: Vec::new(alloc),
             answer: Vec::new(alloc),
-            copy: Vec::new(alloc),
+            watch: Watch::new(alloc),
         }
     }
 
@@ -54,7 +54,7 @@ impl Talk {
         let line = self.line.as_slice();
         if self.is_watching {
             self.player
-                .take_watched_line(alloc, natives, line, &mut self.copy, &mut self.answer)
+                .take_watched_line(alloc, natives, line, &mut self.watch, &mut self.answer)
         } else {
             self.player
                 .take_line(alloc, natives, line, &mut self.answer)

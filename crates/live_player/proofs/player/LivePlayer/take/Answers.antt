@@ -48,3 +48,10 @@ pub play-requires : goal.play-requires
 play-requires g c =
     let next = c.requires.next in
     (if next.0.forgets then 2 ^ 63 else 2 ^ 28, next.0.told, next.1, next.2.stage_at)
+
+pub returns-in_ok-add-in-Done-clause-kept : goal.returns-in_ok-add-in-Done-clause-kept
+returns-in_ok-add-in-Done-clause-kept g c = λ cpu lines next come on out.
+    rw c.in-Done.is at (c.in_ok-panic.ensures.kept (if lines.forgets then 2 ^ 63 else 2 ^ 28) cpu lines.told next come.stage_at on out)
+
+pub returns-in-Full-clause-kept : goal.returns-in-Full-clause-kept
+returns-in-Full-clause-kept g c = λ cpu lines next come on out. tt

@@ -16,8 +16,8 @@ returns-in_err-said g c = λ lines stands.
     (read_as c.as_slice.result.now c.args.line.now (Err c.in_err-said.field-0.0) (c.as_slice.ensures.value ∙ c.uuids.ensures.order)
     c.lines_stay_sound.ensures c.in_err-said.ensures.judged c.in_err-said.ensures.in_place stands.come))
 
-pub take-requires-clause-next : goal.take-requires-clause-next
-take-requires-clause-next g c =
+pub take_unwatched-requires-clause-next : goal.take_unwatched-requires-clause-next
+take_unwatched-requires-clause-next g c =
     let come = c.requires.1.come in
     let says = read_as c.as_slice.result.now c.args.line.now (Ok (line_says.Says c.in-Says.said)) (c.as_slice.ensures.value ∙ c.uuids.ensures.order)
     c.lines_stay_sound.ensures (rw c.in-Says.is at c.in_ok-said.ensures.judged) (rw c.in-Says.is at c.in_ok-said.ensures.in_place) come in
@@ -30,9 +30,9 @@ returns-in-Ok g c = λ lines stands.
     let same = c.as_slice.ensures.value ∙ c.uuids.ensures.order in
     let says = read_as c.as_slice.result.now c.args.line.now (Ok (line_says.Says c.in-Says.said)) same c.lines_stay_sound.ensures
     (rw c.in-Says.is at c.in_ok-said.ensures.judged) (rw c.in-Says.is at c.in_ok-said.ensures.in_place) stands.come in
-    rw c.taken.ensures (takes (platform natives ds) lines c.args.line.now c.in-Says.said (taken_as c.in-Ok.how) c.take.new.self _ _ says
+    rw c.taken.ensures (takes (platform natives ds) lines c.args.line.now c.in-Says.said (taken_as c.in-Ok.how) c.take_unwatched.new.self _ _ says
     (stands_at natives ds c.as_slice.result.now same c.as_slice.ensures.fits (rw c.as_slice.ensures.value c.uuids.ensures.apart))
-    (c.in-Ok.ensures.takes lines says.next stands.come))
+    (c.in-Ok.ensures lines says.next stands.come))
 
 pub returns-in-HistoryOff : goal.returns-in-HistoryOff
 returns-in-HistoryOff g c = λ lines stands.

@@ -1,7 +1,7 @@
 use Rattle.std.proofs.Common.{refl}
 use Rattle.live_play.specs.Answer.{Platform, platform_within}
 use Rattle.live_player.proofs.Panics.{no_panic}
-use Rattle.live_player.proofs.Staging.{waits, waits_unended}
+use Rattle.live_player.proofs.Staging.{none_out, waits, waits_inside, waits_unended}
 use Rattle.notify_text.specs.Statement.{with_statement}
 use Rattle.trace_text.specs.declared.statement.Statement.TheVariants as says
 use Rattle.native_tas.specs.Table.{drivers, entries}
@@ -80,3 +80,26 @@ pub returns-in-Blank-5-clause-panic : goal.returns-in-Blank-5-clause-panic
 returns-in-Blank-5-clause-panic g c = λ most lines next stands.
     let on : Platform = platform_within most (entries c.args.natives.now) (drivers c.args.natives.now) in
     waits_unended on lines c.args.said.now c.in-Blank.is
+
+pub returns-in-Item-clause-kept : goal.returns-in-Item-clause-kept
+returns-in-Item-clause-kept g c = λ most cpu lines next stands on out.
+    rw c.in-Item.is (c.play_item.ensures.kept most cpu lines (rw c.in-Item.is at next) stands on (rw c.in-Item.is at out))
+
+pub returns-in-Blank-clause-kept : goal.returns-in-Blank-clause-kept
+returns-in-Blank-clause-kept g c = λ most cpu lines next stands on out. absurd (waits_inside c.args.said.now cpu c.in-Blank.is out)
+
+pub returns-in-Blank-2-clause-kept : goal.returns-in-Blank-2-clause-kept
+returns-in-Blank-2-clause-kept g c = λ most cpu lines next stands on out. absurd (waits_inside c.args.said.now cpu c.in-Blank.is out)
+
+pub returns-in-Blank-3-clause-kept : goal.returns-in-Blank-3-clause-kept
+returns-in-Blank-3-clause-kept g c = λ most cpu lines next stands on out. absurd (waits_inside c.args.said.now cpu c.in-Blank.is out)
+
+pub returns-in-Blank-4-clause-kept : goal.returns-in-Blank-4-clause-kept
+returns-in-Blank-4-clause-kept g c = λ most cpu lines next stands on out. absurd (waits_inside c.args.said.now cpu c.in-Blank.is out)
+
+pub returns-in-Blank-5-clause-kept : goal.returns-in-Blank-5-clause-kept
+returns-in-Blank-5-clause-kept g c = λ most cpu lines next stands on out. absurd (waits_inside c.args.said.now cpu c.in-Blank.is out)
+
+pub returns-in_ok-signal-in-Signal-clause-kept : goal.returns-in_ok-signal-in-Signal-clause-kept
+returns-in_ok-signal-in-Signal-clause-kept g c = λ most cpu lines next stands on out.
+    absurd (none_out c.args.said.now c.in-Signal.value cpu c.in-Signal.is out)

@@ -76,3 +76,23 @@ returns-in-Full-clause-panic g c = λ most lines next stands.
     let can = can_begin on lines (says.Item c.args.item.now) c.in-Header.header there.0 there.1 there.2 next
     (closed_item lines c.args.item.now) refl in
     c.in_ok-how-in-Header.ensures.panic most lines (c.in_ok-player-in-Header.ensures.played most lines can)
+
+pub returns-in-Core-clause-kept : goal.returns-in-Core-clause-kept
+returns-in-Core-clause-kept g c = λ most cpu lines next stands on out.
+    c.play_on.ensures.kept most cpu lines next (rw c.in-Core.is at stands).0 on out
+
+pub returns-in-Done-clause-kept : goal.returns-in-Done-clause-kept
+returns-in-Done-clause-kept g c = λ most cpu lines next stands on out.
+    let there : Platform = platform_within most (entries c.args.natives.now) (drivers c.args.natives.now) in
+    let head = rw c.in-Header.is at stands in
+    let can = can_begin there lines (says.Item c.args.item.now) c.in-Header.header head.0 head.1 head.2 next
+    (closed_item lines c.args.item.now) refl in
+    c.in_ok-how-in-Header.ensures.kept most cpu lines next (c.in_ok-player-in-Header.ensures.played most lines can) on out
+
+pub returns-in-Full-clause-kept : goal.returns-in-Full-clause-kept
+returns-in-Full-clause-kept g c = λ most cpu lines next stands on out.
+    let there : Platform = platform_within most (entries c.args.natives.now) (drivers c.args.natives.now) in
+    let head = rw c.in-Header.is at stands in
+    let can = can_begin there lines (says.Item c.args.item.now) c.in-Header.header head.0 head.1 head.2 next
+    (closed_item lines c.args.item.now) refl in
+    c.in_ok-how-in-Header.ensures.kept most cpu lines next (c.in_ok-player-in-Header.ensures.played most lines can) on out
