@@ -11,7 +11,7 @@
 //!
 //! - `run_alone`, whose clauses are those of `run` in `docs/proofs.md`: by one statement on the command that the words
 //!   ask for (`DoesAlone`). `run_command` does what a command says: for `run`, `run-binary` and `asm`, whose word is
-//!   the grammar, and for those of `journal_runner`, `notify_runner` and `client_runner` it is one call of `run_word`.
+//!   `Serve`, and for those of `journal_runner`, `notify_runner` and `client_runner` it is one call of `run_word`.
 //! - `read_content` reads an input in its grammar as a trace or an image, or answers its first fault. A core can be
 //!   booted with what was read (`CanBePlayed`).
 //! - `play_items` puts the lines of a player's items, gathered: behind each item what was put and what is gathered is
@@ -20,6 +20,7 @@
 //!   it keeps the lines of one item at a time; `summary_line` is the definition's line of a history and a digest.
 #![tactic(auto)]
 
+mod at_end;
 mod command;
 mod content;
 mod digesting;
@@ -31,7 +32,9 @@ mod summary;
 mod top_call;
 mod work;
 
+pub use at_end::AtEnd;
 pub use command::Grammar;
 pub use content::Content;
+pub use serving::Serve;
 pub use top_call::run_alone;
 pub use word_parts::{LONGEST_INPUT, Status};

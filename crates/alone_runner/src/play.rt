@@ -5,6 +5,7 @@ ghost use Rattle.trace_text.specs.Sound.{IsSound};
 ghost use Rattle.word_parts.specs.Faults.{StopTellsFaults};
 ghost use Rattle.alone_runner.specs.Run.{IsToldOf};
 
+use crate::at_end::AtEnd;
 use crate::gathering::play_items;
 use native_tas::Natives;
 use ports::Sink;
@@ -19,6 +20,7 @@ pub fn play<K: Sink>(
     natives: &Natives,
     trace: Trace,
     out: &mut K,
+    at_end: AtEnd,
 ) -> Result<(), Stop>
     requires { IsSound (uuids_of (entries natives.now)) trace }
     ensures told { IsToldOf (entries natives.now) trace result (K.held out.old) (K.held out.new) }
@@ -31,5 +33,8 @@ pub fn play<K: Sink>(
     let Ok(mut player) = Player::counting(alloc, boot, natives, fills.as_slice()) else {
         return Err(Stop::Memory);
     };
-    play_items(alloc, &mut player, items.as_slice(), out)
+    let played = play_items(alloc, &mut player, items.as_slice(), out);
+    at_end.end_with(player);
+    at_end.end_with(items);
+    played
 }

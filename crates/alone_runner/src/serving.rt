@@ -10,6 +10,7 @@ ghost use Rattle.alone_runner.specs.Run.{reading};
 ghost use Rattle.alone_runner.specs.declared.command.Grammar.{Grammar as AnyGrammar};
 ghost use Rattle.alone_runner.specs.declared.content.Content.TheVariants as content;
 
+use crate::at_end::AtEnd;
 use crate::command::Grammar;
 use crate::content::{Content, read_content};
 use crate::line::image_line;
@@ -22,7 +23,13 @@ use trace_text::{Trace, TraceFault};
 use word_parts::{InputWord, Status, answer_line, has_too_many, status_of};
 
 /// Plays a trace, where it doesn't have too many SMC items.
-fn answer_trace<K: Sink>(alloc: Global, natives: &Natives, trace: Trace, out: &mut K) -> Status
+fn answer_trace<K: Sink>(
+    alloc: Global,
+    natives: &Natives,
+    trace: Trace,
+    out: &mut K,
+    at_end: AtEnd,
+) -> Status
     requires { IsSound (uuids_of (entries natives.now)) trace }
     ensures served { (grammar : AnyGrammar) →
         IsServedBy (reading grammar (entries natives.now)) (content.Trace trace) result (K.held out.old) (K.held out.new) }
@@ -31,7 +38,7 @@ fn answer_trace<K: Sink>(alloc: Global, natives: &Natives, trace: Trace, out: &m
     if has_too_many(trace.items.as_slice()) {
         return Status::TooLong;
     }
-    status_of(play(alloc, natives, trace, out))
+    status_of(play(alloc, natives, trace, out, at_end))
 }
 
 /// Prints an image.
@@ -47,23 +54,30 @@ fn answer_image<K: Sink>(alloc: Global, natives: &Natives, image: &Image, out: &
     }
 }
 
-/// The word that reads an input in the grammar.
-impl InputWord for Grammar {
+/// The word that reads an input in the grammar, and serves what it spells.
+#[derive(Clone, Copy)]
+pub struct Serve {
+    pub grammar: Grammar,
+    /// What becomes of a trace that was played.
+    pub at_end: AtEnd,
+}
+
+impl InputWord for Serve {
     ghost use Rattle.alone_runner.specs.Plays.{Plays, SpellsTraces};
     ghost use Rattle.alone_runner.specs.Run.{WasRead, reading};
 
     type Content = Content;
 
-    ghost word = { λ it built. reading it built.natives };
+    ghost word = { λ it built. reading it.grammar built.natives };
 
-    ghost Shows = { λ it built input call. SpellsTraces it → Plays it built.natives input call.result call.old call.new };
+    ghost Shows = { λ it built input call. SpellsTraces it.grammar → Plays it.grammar built.natives input call.result call.old call.new };
 
-    ghost IsRead = { λ it built input content. WasRead it built.natives input content };
+    ghost IsRead = { λ it built input content. WasRead it.grammar built.natives input content };
 
     fn laws(self) {}
 
     fn read(self, alloc: Global, input: &[u8], natives: &Natives) -> Result<Content, TraceFault> {
-        read_content(alloc, self, input, natives.uuids().as_slice())
+        read_content(alloc, self.grammar, input, natives.uuids().as_slice())
     }
 
     fn serve<K: Sink>(
@@ -74,7 +88,7 @@ impl InputWord for Grammar {
         natives: &Natives,
     ) -> Status {
         match content {
-            Content::Trace(trace) => answer_trace(alloc, natives, trace, out),
+            Content::Trace(trace) => answer_trace(alloc, natives, trace, out, self.at_end),
             Content::Image(image) => answer_image(alloc, natives, &image, out),
         }
     }

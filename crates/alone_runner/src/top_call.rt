@@ -10,7 +10,9 @@ ghost use Rattle.alone_runner.specs.Words.{Asks, IsWithin, Reads};
 ghost use Rattle.alone_runner.specs.declared.command.Command.{Command as AnyCommand};
 ghost use Rattle.alone_runner.specs.declared.command.Command.TheVariants.{Work};
 
+use crate::at_end::AtEnd;
 use crate::command::{Command, command_of};
+use crate::serving::Serve;
 use crate::work::summary;
 use client_runner::Client;
 use journal_runner::{Audit, Compare, Record};
@@ -42,6 +44,7 @@ fn run_command<S: Source, K: Sink>(
     input: &mut S,
     out: &mut K,
     natives: &Natives,
+    at_end: AtEnd,
 ) -> Status
     requires { IsWithin command }
     ensures answered { IsAnswered (alone_commands (built_in natives.now)) (λ (asked : AnyCommand). asked ≡ command) (record {
@@ -58,7 +61,7 @@ fn run_command<S: Source, K: Sink>(
     ensures untouched { (Reads command → ⊥) → input.new ≡ input.old }
 {
     match command {
-        Command::Serve(grammar) => run_word(alloc, grammar, input, out, natives),
+        Command::Serve(grammar) => run_word(alloc, Serve { grammar, at_end }, input, out, natives),
         Command::Record => run_word(alloc, Record, input, out, natives),
         Command::Audit => run_word(alloc, Audit, input, out, natives),
         Command::Compare { subject } => run_word(alloc, Compare { subject }, input, out, natives),
@@ -82,12 +85,15 @@ fn run_command<S: Source, K: Sink>(
 /// SMC items, of a script that of its calls, are tested, then it is played; the first answer met ends the call. The lines of a
 /// play are gathered and put 64 KiB at a time, the last of them before the status is answered. Want of memory may come at any
 /// time; lines that are not put by then are lost.
+///
+/// `run` and `run-binary` end with a trace that they have played as `at_end` says; all that other words take is free at the return.
 pub fn run_alone<S: Source, K: Sink>(
     alloc: Global,
     words: &[String],
     input: &mut S,
     out: &mut K,
     natives: &Natives,
+    at_end: AtEnd,
 ) -> Status
     ensures answered { IsAnswered (alone_commands (built_in natives.now)) (Asks words.now) (record {
       result = result;
@@ -104,7 +110,7 @@ pub fn run_alone<S: Source, K: Sink>(
     ensures untouched { (seed count : ℕ) → Asks words.now (Work seed count) → input.new ≡ input.old }
 {
     match command_of(words) {
-        Some(command) => run_command(alloc, command, input, out, natives),
+        Some(command) => run_command(alloc, command, input, out, natives, at_end),
         None => answer_line(out, Status::Usage, USAGE_LINE),
     }
 }

@@ -5,7 +5,7 @@ use ports::{MemSink, MemSource, NoPace};
 use std::alloc::{AllocError, Global};
 use std::sync::Wait;
 use std::thread::Threads;
-use trace_runner::run;
+use trace_runner::{AtEnd, run};
 
 /// Which bytes of a case are being read.
 #[derive(Clone, Copy)]
@@ -326,7 +326,17 @@ impl Case {
         let mut source = MemSource::new(self.changed_to(alloc, cut)?, self.failing_takes.clone()?);
         let mut sink = MemSink::new(alloc, self.failing_puts.clone()?);
         let words = self.words.as_slice();
-        let status = run(rt, alloc, words, &mut source, &mut sink, natives, &NoPace).number();
+        let status = run(
+            rt,
+            alloc,
+            words,
+            &mut source,
+            &mut sink,
+            natives,
+            &NoPace,
+            AtEnd::Free,
+        )
+        .number();
         Ok(Outcome {
             cut,
             status: u32::from(status),

@@ -8,7 +8,7 @@ ghost use Rattle.core_c.specs.Words.{texts_in};
 use crate::growing_sink::GrowingSink;
 use crate::slice_source::SliceSource;
 use crate::words::words_in;
-use alone_runner::{Status, run_alone};
+use alone_runner::{AtEnd, Status, run_alone};
 use native_tas::{Natives, program_natives};
 use std::alloc::Global;
 
@@ -20,7 +20,7 @@ pub struct Outcome {
 }
 
 /// The top call, beside these built-in applications. No thread is started, so the word that asks for some is answered as words
-/// that ask for nothing.
+/// that ask for nothing. C's process goes on, so all that was played is freed.
 fn run_beside(
     alloc: Global,
     words: &[String],
@@ -31,7 +31,7 @@ fn run_beside(
     requires { out.old.held.items ≡ [] }
     ensures { IsRun (entries natives.now) (drivers natives.now) (map string_bytes words.now) input.old.left.now result out.new.held.items }
 {
-    run_alone(alloc, words, input, out, natives)
+    run_alone(alloc, words, input, out, natives, AtEnd::Free)
 }
 
 /// The top call, beside the application and the driver that are built into the program.

@@ -7,7 +7,7 @@ use ports::{NoPace, StdSink, StdSource};
 use std::alloc::AllocError;
 use std::io;
 use std::process::ExitCode;
-use trace_runner::run;
+use trace_runner::{AtEnd, run};
 
 fn main(rt: HostRuntime) -> ExitCode {
     let Ok(line) = read_command_line(&rt) else {
@@ -27,6 +27,7 @@ fn main(rt: HostRuntime) -> ExitCode {
         &mut out,
         &natives,
         &NoPace,
+        AtEnd::LeaveToProcess,
     );
     ExitCode::from(exit_status(Ok(status.number())))
 }

@@ -18,7 +18,7 @@ use ports::{MemSink, MemSource};
 use std::alloc::Global;
 use std::sync::Wait;
 use std::thread::Threads;
-use trace_runner::{Status, run};
+use trace_runner::{AtEnd, Status, run};
 
 /// Each of two processors asks three times who the core is.
 const SCRIPT: &str = "boot 2 1 1\n\
@@ -49,6 +49,7 @@ fn play_script<R: Threads + Wait + Sync>(
         sink,
         &natives,
         meeting,
+        AtEnd::Free,
     ))
 }
 

@@ -9,7 +9,7 @@ ghost use Rattle.word_parts.specs.Faults.{TellsFaults};
 ghost use Rattle.word_parts.specs.Input.{TakesAtMost};
 ghost use Rattle.trace_runner.specs.Threads.{IsPlayedInOrder, IsServedByThreads, RanOnThreads, status_where};
 
-use alone_runner::{Content, Grammar};
+use alone_runner::{AtEnd, Content, Grammar, Serve};
 use base::NoMemory;
 use core_at_work::core_of;
 use core_machine::first_lanes;
@@ -117,7 +117,11 @@ pub fn run_on_threads<R: Threads + Wait + Sync, S: Source, K: Sink, G: Pace + Sy
     ensures input_count { S.faults input.old ≤ S.faults input.new }
     ensures input_stays { result ≢ Status.ReadFault → S.faults input.new ≡ S.faults input.old }
 {
-    match read_input(alloc, Grammar::Text, input, out, natives) {
+    let word = Serve {
+        grammar: Grammar::Text,
+        at_end: AtEnd::Free,
+    };
+    match read_input(alloc, word, input, out, natives) {
         Ok(Content::Trace(trace)) => answer_trace(rt, alloc, natives, trace, out, pace),
         // No text of a trace spells an image.
         Ok(Content::Image(_)) => unreachable!(),

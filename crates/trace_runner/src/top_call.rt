@@ -7,7 +7,7 @@ ghost use Rattle.alone_runner.specs.declared.command.Command.TheVariants.{Work};
 ghost use Rattle.trace_runner.specs.Commands.{Alone, Asks, SayThreads, Threads as OnThreads, top_commands};
 
 use crate::threads::run_on_threads;
-use alone_runner::run_alone;
+use alone_runner::{AtEnd, run_alone};
 use native_tas::Natives;
 use ports::{Pace, Sink, Source};
 use std::alloc::Global;
@@ -36,7 +36,7 @@ pub fn asks_threads(words: &[String]) -> bool
 /// Does what the words ask for. `threads` reads a trace as text from the input, and each processor plays its items in a thread
 /// of its own, on one core that they share, beside the applications that are built in; once all threads have ended, a block
 /// of lines is put for each processor. Work for which no thread can be started is done by the caller. All other words are
-/// answered as by [`run_alone`].
+/// answered as by [`run_alone`], which ends with what was played as `at_end` says; `threads` frees it.
 ///
 /// The pace is called by each processor between the entry and the exit of each of its calls. The call waits for its threads,
 /// and they for their turns.
@@ -48,6 +48,7 @@ pub fn run<R: Threads + Wait + Sync, S: Source, K: Sink, G: Pace + Sync>(
     out: &mut K,
     natives: &Natives,
     pace: &G,
+    at_end: AtEnd,
 ) -> Status
     ensures answered { IsAnswered (top_commands (built_in natives.now)) (Asks words.now) (record {
       result = result;
@@ -66,6 +67,6 @@ pub fn run<R: Threads + Wait + Sync, S: Source, K: Sink, G: Pace + Sync>(
     if asks_threads(words) {
         run_on_threads(rt, alloc, input, out, natives, pace)
     } else {
-        run_alone(alloc, words, input, out, natives)
+        run_alone(alloc, words, input, out, natives, at_end)
     }
 }

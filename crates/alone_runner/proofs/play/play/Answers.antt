@@ -18,8 +18,8 @@ pub counting-requires-clause-boot : goal.counting-requires-clause-boot
 counting-requires-clause-boot g c =
     subst (λ (o : Option Boot). IfSome o (IsSoundBoot (uuids_of (entries c.args.natives.now)))) c.in-Some.is c.requires.boot
 
-pub play_items-requires : goal.play_items-requires
-play_items-requires g c =
+pub play_items-played-requires : goal.play_items-played-requires
+play_items-played-requires g c =
     let natives = entries c.args.natives.now in
     let same = same-trace c.args.trace c.in-Some.boot _ _ c.in-Some.is c.as_slice.ensures c.as_slice-2.ensures in (
       natives,
@@ -33,7 +33,7 @@ pub returns-clause-told : goal.returns-clause-told
 returns-clause-told g c =
     let natives = entries c.args.natives.now in
     let same = same-trace c.args.trace c.in-Some.boot _ _ c.in-Some.is c.as_slice.ensures c.as_slice-2.ensures in
-    c.play_items.ensures.told natives c.args.trace
+    c.play_items-played.ensures.told natives c.args.trace
     (subst (λ (trace : Trace). IsAtStart natives trace c.as_slice-2.result.now c.in-Ok.player) same
     (at-start natives c.in-Some.boot _ _ c.in-Ok.player (subst (IsSound (uuids_of natives)) (sym same) c.requires)
     c.in-Ok.ensures.boots c.in-Ok.ensures.stands))
