@@ -13,10 +13,11 @@ pub record Commands : Type 1 where
   pub Reads : Command → Type 0
   pub Does : Command → Call → Type 0
 
--- none is asked for, or one that reads is
+-- none is asked for
 abbrev pub IsNone : (commands : Commands) → (commands.Command → Type 0) → Type 0
 IsNone commands Asked = (command : commands.Command) → Asked command → ⊥
 
+-- one that reads is asked for
 abbrev pub IsToRead : (commands : Commands) → (commands.Command → Type 0) → Type 0
 IsToRead commands Asked = (command : commands.Command) × commands.Reads command × Asked command
 

@@ -9,7 +9,7 @@ abbrev pub words_of : CommandLine → List (String Global)
 words_of (Text arguments) = drop 1 arguments.items
 words_of NotText = []
 
--- something stands behind the program's name
+-- something stands behind the program's name, or something, the name among it, isn't UTF-8
 abbrev pub HasWords : CommandLine → Type 0
 HasWords (Text arguments) = 1 < length arguments.items
 HasWords NotText = Unit {0}

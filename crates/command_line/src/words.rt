@@ -13,7 +13,7 @@ use std::rt::Env;
 pub enum CommandLine {
     /// Its name, and then its words.
     Text(Vec<String>),
-    /// One of these isn't UTF-8.
+    /// One of these, the name among them, isn't UTF-8.
     NotText,
 }
 
@@ -31,7 +31,7 @@ impl CommandLine {
         }
     }
 
-    /// Whether something stands behind the program's name, UTF-8 or not.
+    /// Whether something stands behind the program's name, or something, the name among it, isn't UTF-8.
     pub fn has_words(&self) -> bool
         ensures { IsTrue result ↔ HasWords self.now }
     {

@@ -17,15 +17,13 @@
 //! - It has an end, which the end of the input, a fault of reading, one of writing or want of memory brings, each by its
 //!   name, and nothing else. No call may be made behind it.
 //! - A fault of either is counted in the call that answers it, and no other call moves the counts (`faults_behind`).
-//!   `StdPort` counts a fault of reading only where a read failed or a line came in 2^64 - 1 parts, and one of writing
-//!   only where its sink counted it.
 //! - `StdPort` over a reader and a writer that tell what they have: `hear` takes a line of at most 8,388,736 bytes and
 //!   its line feed, or all of a longer one, or what stands before the end of the input, as it says. It reads nothing
 //!   while a whole line is pending, and writes nothing. `say` adds the bytes, and reads nothing.
 //! - `MemPort` tells its history.
 //! - No clause says which calls of a `MemPort` fail, what its other side is told, or what a flush does. Nor does one
-//!   say that a `StdPort` waits for no more than the line that it hears, that a read or write that it counts as failed
-//!   was its reader's or its writer's fault, or that a read is tried again where it was interrupted: `parts` has six
+//!   say that a `StdPort` waits for no more than the line that it hears, that what it counts as a fault was one of its
+//!   reader or its writer, or a line of 2^64 - 1 parts, or that a read is tried again where it was interrupted: `parts` has six
 //!   readers for these.
 #![tactic(auto)]
 

@@ -72,7 +72,7 @@ pub trait Port {
     /// How it has come to its end, where it has.
     ghost finish: { Self → Option Finish };
 
-    /// How many of its calls have failed, each by a read or by a write that failed.
+    /// How many of its calls have failed, of `hear` and of `say`. A count that has come to 2^64 - 1 stays there.
     ghost faults: { Self → Faults };
 
     /// Hears the next line, without the line feed that ends it. What `line` holds before is let go of; where no line was

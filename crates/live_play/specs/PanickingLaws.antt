@@ -1,4 +1,4 @@
--- That the panic which is told is the one in which a call ends, and that of a call that has ended none is told.
+-- That a panic is told where its call ends, and that of a call that has ended none is told.
 use Rattle.std.specs.Prelude.{◌≡◌, ℕ, Bool, true, false, Option, None, Some, slice_get}
 use Rattle.std.specs.Option.{option_and_then}
 use Rattle.core_at_work.specs.Panics.{panic_of}

@@ -32,8 +32,8 @@ pub fn pending_opens_are_known()
     ensures { PendingOpensAreKnown }
 {}
 
-/// Each new call of such a session that gets a slot is the next event of the session's log, its open among them: so nothing that
-/// the session's client has asked of it is left out.
+/// Each new call of such a session that gets a slot is the next event of the session's log, its open among them: so no call
+/// of the session that has got a slot is left out.
 pub fn calls_are_in_logs()
     ensures { CallsAreInLogs }
 {}

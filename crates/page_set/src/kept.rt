@@ -32,7 +32,7 @@ impl KeptPages {
         }
     }
 
-    /// Keeps what stands in these pages of RAM, in place of what was kept before.
+    /// Keeps what stands in these pages of RAM, in place of what was kept before. At want of memory what is kept is of no use.
     pub fn keep(&mut self, pages: PageSet, ram: &[u8]) -> Result<(), AllocError>
         requires { length ram.now ≡ 0x400000 }
         ensures pages { self.new.pages ≡ pages }

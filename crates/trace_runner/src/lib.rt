@@ -20,5 +20,5 @@ mod top_call;
 
 pub use alone_runner::{AtEnd, LONGEST_INPUT, Status, run_alone};
 pub use session_compare::{Compared, ReadJournal, compare, compare_groups};
-pub use top_call::{asks_threads, run};
+pub use top_call::run;
 pub use word_parts::worked_examples;

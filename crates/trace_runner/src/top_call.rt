@@ -24,7 +24,7 @@ fn is_threads(word: &str) -> bool
 }
 
 /// Whether these words are the one word `threads`.
-pub fn asks_threads(words: &[String]) -> bool
+fn asks_threads(words: &[String]) -> bool
     ensures { IsTrue result ↔ Asks words.now OnThreads }
 {
     match words {
