@@ -115,14 +115,20 @@ fn room_in(core: &Core, app: &Application, regs: &Regs) -> Option<bool>
 }
 
 /// What the call comes back as that these registers name, and that is given this.
-fn resumed_in(core: &Core, app: &Application, regs: &Regs, given: &ResumeInput) -> Resumed
+fn resumed_in(
+    alloc: Global,
+    core: &Core,
+    app: &Application,
+    regs: &Regs,
+    given: &ResumeInput,
+) -> Result<Resumed, NoMemory>
     requires { IsSuspended core.now.parts.slots regs.now.a }
-    ensures back { IsBackIn core.now.parts regs.now.a (given_as given.now) result.back }
-    ensures room { IsRoomIn core.now.parts (application_of app.now) regs.now.a result.room }
+    ensures back { IfOk result (λ came. IsBackIn core.now.parts regs.now.a (given_as given.now) came.back) }
+    ensures room { IfOk result (λ came. IsRoomIn core.now.parts (application_of app.now) regs.now.a came.room) }
 {
     let room = room_in(core, app, regs);
-    let back = back_in(core, regs, given);
-    Resumed { back, room }
+    let back = back_in(alloc, core, regs, given)?;
+    Ok(Resumed { back, room })
 }
 
 /// What an entry with these registers is for a group of this application, which is prepared.
@@ -141,7 +147,8 @@ pub(crate) fn arrival_on(
         EntryDecision::Answers(_) => Ok(Arrival::Nothing),
         EntryDecision::Begins(planned) => new_arrival(alloc, planned),
         EntryDecision::GoesOn(decided) => {
-            let resumed = Boxed::new(alloc, resumed_in(core, app, regs, &decided.given))?;
+            let came = resumed_in(alloc, core, app, regs, &decided.given)?;
+            let resumed = Boxed::new(alloc, came)?;
             Ok(Arrival::Back(resumed))
         }
     }

@@ -1,6 +1,6 @@
 //! What an entry is for a session, as far as it can be told before it is done.
 ghost use Rattle.std.specs.Prelude.{◌≡◌, ℕ, List, IfOk};
-ghost use Rattle.isolation.specs.Arriving.{IsBackIn, arrival_as, arrival_of, back_as, counts, event_in, open_event, opens_in};
+ghost use Rattle.isolation.specs.Arriving.{IsBackIn, arrival_as, arrival_of, back_as, counts, event_in, input_at, open_event, opens_in};
 ghost use Rattle.isolation.specs.Calls.{planned_call};
 ghost use Rattle.isolation.specs.Meaning.{IsArrivalOn};
 ghost use Rattle.kernel_entry.specs.Entering.{IsPrepared, WasPrepared};
@@ -126,45 +126,67 @@ fn copy_of(reply: &RpcReply) -> RpcReply
 }
 
 /// What a call is given, without its buffer's place.
-fn input_of(given: &ResumeInput) -> BackInput
-    ensures { result ≡ input_of (given_as given.now) }
+fn input_of(alloc: Global, given: &ResumeInput) -> Result<BackInput, NoMemory>
+    ensures { IfOk result (λ input. input ≡ input_of (given_as given.now)) }
 {
     match given {
-        ResumeInput::Nothing => BackInput::Nothing,
-        ResumeInput::Buffer { .. } => BackInput::Buffer,
-        ResumeInput::NoBuffer => BackInput::NoBuffer,
-        ResumeInput::Reply(reply) => BackInput::Reply(copy_of(reply)),
+        ResumeInput::Nothing => Ok(BackInput::Nothing),
+        ResumeInput::Buffer { .. } => Ok(BackInput::Buffer),
+        ResumeInput::NoBuffer => Ok(BackInput::NoBuffer),
+        ResumeInput::Reply(reply) => {
+            let reply = Boxed::new(alloc, copy_of(reply))?;
+            Ok(BackInput::Reply(reply))
+        }
     }
 }
 
-/// What a call comes back with that is in this phase, was cancelled or not, and is given this. One that was interrupted had
-/// asked for nothing.
-fn back_of(cont: &Cont<Pages>, marked: bool, given: &ResumeInput) -> Back
-    ensures { result ≡ back_as cont.now marked (given_as given.now) }
+/// What a call comes back with in this phase that is given this. One that was interrupted had asked for nothing.
+fn input_at(alloc: Global, phase: Phase, given: &ResumeInput) -> Result<Option<BackInput>, NoMemory>
+    ensures { IfOk result (λ input. input ≡ input_at phase (given_as given.now)) }
+{
+    match phase {
+        Phase::Runs => Ok(None),
+        Phase::Asks | Phase::Waits | Phase::Ends => {
+            let input = input_of(alloc, given)?;
+            Ok(Some(input))
+        }
+    }
+}
+
+/// What a call comes back with that was cancelled or not, and is given this.
+fn back_of(
+    alloc: Global,
+    cont: &Cont<Pages>,
+    marked: bool,
+    given: &ResumeInput,
+) -> Result<Back, NoMemory>
+    ensures { IfOk result (λ back. back ≡ back_as cont.now marked (given_as given.now)) }
 {
     let seen = if marked && !cont.cancelled {
         Some(cont.steps)
     } else {
         None
     };
-    let input = match cont.phase {
-        Phase::Runs => None,
-        Phase::Asks | Phase::Waits | Phase::Ends => Some(input_of(given)),
-    };
-    Back { seen, input }
+    let input = input_at(alloc, cont.phase, given)?;
+    Ok(Back { seen, input })
 }
 
 /// What the call comes back with that these registers name, and that is given this.
-pub fn back_in(core: &Core, regs: &Regs, given: &ResumeInput) -> Back
+pub fn back_in(
+    alloc: Global,
+    core: &Core,
+    regs: &Regs,
+    given: &ResumeInput,
+) -> Result<Back, NoMemory>
     requires { IsSuspended core.now.parts.slots regs.now.a }
-    ensures { IsBackIn core.now.parts regs.now.a (given_as given.now) result }
+    ensures { IfOk result (IsBackIn core.now.parts regs.now.a (given_as given.now)) }
 {
     let slot = regs.a[3];
     let Ok(cont) = core.parts.slots.suspended_call(slot, regs.a[7]) else {
         unreachable!()
     };
     let marked = core.parts.cancellations[slot as usize].marked;
-    back_of(cont, marked, given)
+    back_of(alloc, cont, marked, given)
 }
 
 /// What an entry with these registers is that is prepared.
@@ -182,7 +204,8 @@ pub(crate) fn arrival_on(
         EntryDecision::Answers(_) => Ok(Arrival::Nothing),
         EntryDecision::Begins(planned) => new_arrival(alloc, planned),
         EntryDecision::GoesOn(decided) => {
-            let back = Boxed::new(alloc, back_in(core, regs, &decided.given))?;
+            let came = back_in(alloc, core, regs, &decided.given)?;
+            let back = Boxed::new(alloc, came)?;
             Ok(Arrival::Back(back))
         }
     }

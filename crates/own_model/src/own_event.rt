@@ -1,3 +1,4 @@
+use boxed::Boxed;
 use rpc_msgs::RpcReply;
 use ta_params::{CopiedParams, Login};
 
@@ -21,8 +22,8 @@ pub enum BackInput {
     Buffer,
     /// No buffer.
     NoBuffer,
-    /// The reply to its request.
-    Reply(RpcReply),
+    /// The reply to its request, which stands apart: it has room for the bytes of a file, and few calls come back with one.
+    Reply(Boxed<RpcReply>),
 }
 
 /// What happens to one session. Its calls are numbered from 0 in the order in which they come in. This project's

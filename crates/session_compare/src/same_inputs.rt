@@ -32,7 +32,10 @@ pub(crate) fn is_same_back(one: &BackInput, other: &BackInput) -> bool
     ensures { IsTrue result ↔ (one.now ≡ other.now) }
 {
     match (one, other) {
-        (BackInput::Reply(reply), BackInput::Reply(others)) => is_same_reply(reply, others),
+        (BackInput::Reply(reply), BackInput::Reply(others)) => is_same_reply(
+            reply.get(),
+            others.get(),
+        ),
         (BackInput::Nothing, BackInput::Nothing)
         | (BackInput::Buffer, BackInput::Buffer)
         | (BackInput::NoBuffer, BackInput::NoBuffer) => true,

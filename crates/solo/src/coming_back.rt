@@ -76,7 +76,7 @@ pub fn take_answer(cont: &mut Cont<Plain>, input: &BackInput)
     match input {
         BackInput::Nothing | BackInput::Buffer => {}
         BackInput::NoBuffer => cont.resume_with(ResumeInput::NoBuffer),
-        BackInput::Reply(reply) => cont.resume_with_reply(reply),
+        BackInput::Reply(reply) => cont.resume_with_reply(reply.get()),
     }
 }
 

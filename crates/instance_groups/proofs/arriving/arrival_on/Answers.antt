@@ -46,7 +46,7 @@ returns-in_ok-resumed-in-GoesOn c lane is kernel stands =
     let regs = c.args.regs.now.a in
     let prepared = c.args.prepared.now in
     rw c.in_ok-resumed-in-GoesOn.ensures
-    (arrives parts app kernel regs lane prepared (arrival.Back c.resumed_in.result) is stands
+    (arrives parts app kernel regs lane prepared (arrival.Back c.in_ok-came-in-GoesOn.came) is stands
     (rw c.in-GoesOn.is
-    (back_by parts app kernel regs lane prepared.reads c.in-GoesOn.decided c.resumed_in.result stands (rw c.in-GoesOn.is at is.given kernel stands)
-    c.resumed_in.ensures.back c.resumed_in.ensures.room)))
+    (back_by parts app kernel regs lane prepared.reads c.in-GoesOn.decided c.in_ok-came-in-GoesOn.came stands (rw c.in-GoesOn.is at is.given kernel stands)
+    c.in_ok-came-in-GoesOn.ensures.back c.in_ok-came-in-GoesOn.ensures.room)))

@@ -41,7 +41,7 @@ returns-in_ok-back-in-GoesOn c lane is kernel stands =
     let regs = c.args.regs.now.a in
     let prepared = c.args.prepared.now in
     rw c.in_ok-back-in-GoesOn.ensures
-    (arrives parts kernel regs lane prepared (arrival.Back c.back_in.result) is stands
+    (arrives parts kernel regs lane prepared (arrival.Back c.in_ok-came-in-GoesOn.came) is stands
     (rw c.in-GoesOn.is
-    (back_by parts kernel regs lane prepared.reads c.in-GoesOn.decided c.back_in.result stands (rw c.in-GoesOn.is at is.given kernel stands)
-    c.back_in.ensures)))
+    (back_by parts kernel regs lane prepared.reads c.in-GoesOn.decided c.in_ok-came-in-GoesOn.came stands (rw c.in-GoesOn.is at is.given kernel stands)
+    c.in_ok-came-in-GoesOn.ensures)))

@@ -31,7 +31,7 @@ returns-in-Reply c app solo next number call is e =
     answered app solo next number (back.Reply told) (Replied told) old new call c.requires.phase
     (record { asks = λ before job. refl; wakes = λ wakes. refl })
     (record {
-      asks = c.resume_with_reply.ensures.asks;
+      asks = rw c.get.ensures at c.resume_with_reply.ensures.asks;
       ends = c.resume_with_reply.ensures.ends;
       buffer = buffer;
       stays = stays ∙ ap (λ (place : Option RpcBuffer). record (worked old new) { buffer = place; phase = new.phase }) (sym buffer);
