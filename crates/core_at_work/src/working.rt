@@ -169,6 +169,7 @@ impl CoreAtWork {
 
     /// Prepares an entry over the RAM that its processor sees: what was decided can be read then, and all memory of the entry is
     /// taken. The core stays as it is, but has more room. Where the entry is refused the core is as it was.
+    #[inline(always)]
     pub fn prepare(
         &mut self,
         alloc: Global,
@@ -183,6 +184,7 @@ impl CoreAtWork {
     }
 
     /// Lets a processor in for what was prepared for its registers, and does its granted steps. Takes no memory, and can't fail.
+    #[inline(always)]
     pub fn admit(&mut self, alloc: Global, visitor: Visitor, prepared: Prepared)
         requires can { CanEnter self.old.core (coming_of visitor) }
         requires prepared { WasPrepared self.old.core.parts visitor.regs.a prepared }

@@ -98,6 +98,7 @@ impl Replay {
 
     /// Prepares the entry of a visitor over RAM that has what it reads, if that can be of one RAM: what was decided can be read then.
     /// `None` where it can't have come next. Nothing is done so far.
+    #[inline(always)]
     pub fn prepare(
         &mut self,
         alloc: Global,
@@ -122,6 +123,7 @@ impl Replay {
     }
 
     /// Lets a visitor that can come in do so, as it was prepared, and does its granted steps. Takes no memory, and can't fail.
+    #[inline(always)]
     pub fn admit(&mut self, alloc: Global, visitor: Visitor, prepared: Prepared)
         requires can { CanEnter self.old.at_work.core (coming_of visitor) }
         requires prepared { WasPrepared self.old.at_work.core.parts visitor.regs.a prepared }
