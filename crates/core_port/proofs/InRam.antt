@@ -17,7 +17,7 @@ use Rattle.kernel_model.specs.Exit.{Exited, exit, exit_of, goes_out, goes_out_fr
 use Rattle.kernel_model.specs.History.{kernel_after}
 use Rattle.kernel_model.specs.Kernel.{Active, Asks, Fixed, InSlot, Inside, Kernel, Outside, PendingCall, Processor, Visit}
 use Rattle.kernel_model.specs.Leaving.{FreesBuffer, Finishes, Interrupted, Leaving, Requests, WantsBuffer, leaving_of}
-use Rattle.kernel_model.specs.Sound.{call_in, unmarked}
+use Rattle.kernel_model.specs.Sound.{unmarked_in, unmarked}
 use Rattle.kernel_model.specs.SoundPlaces.{HasItsPlaces}
 use Rattle.kernel_model.specs.SoundRequests.{HasFittingRequest}
 use Rattle.kernel_model.proofs.SoundPlaces.{calls_placed}
@@ -168,7 +168,7 @@ module _ (boot : Booted) (history : List Event) (kernel : Kernel) (booted : IsBo
   can_be_told : (exits : ExitsFrom kernel cpu slot steps regs call) → CanTell exits.progress.call (leaving_of slot exits.progress.call)
   can_be_told exits =
       let stays = stays_so kernel.tables call steps exits.progress exits.comes in
-      let has : HasItsPlaces (unmarked call) = calls_placed boot history kernel booted comes slot (unmarked call) (ap (option_and_then call_in) active) in
+      let has : HasItsPlaces (unmarked call) = calls_placed boot history kernel booted comes slot (unmarked call) (ap (option_and_then unmarked_in) active) in
       can_tell slot exits.progress.call
       (subst (λ (arg : ℕ). IsInRam arg 32) (sym stays.arg) has.argument)
       (subst (λ (arg : ℕ). AllByRecursion (IsWritable arg) exits.progress.call.places) (sym stays.arg)

@@ -157,12 +157,12 @@ returns_so boot p call own shares key fitting found h = record {
       ap (λ (s : Session). s.opened) (same_session session its.session (sym there ∙ its.kept)) ∙ its.is_opened;
 }
   where
-    plain : sound.call_at p.kernel.slots p.slot ≡ Some (sound.unmarked call)
+    plain : sound.unmarked_at p.kernel.slots p.slot ≡ Some (sound.unmarked call)
     plain = unmarked_there p.kernel.slots p.slot call found
 
     of_app : (params : CopiedParams) → call.phase ≡ Waits params → call.uuid ≡ Some (uuid_of p.about.app)
     of_app params waiting =
-        waiting_of_app p.about.app p.instances (sound.call_at p.kernel.slots) p.slot own.instance p.kernel.tables.waiters
+        waiting_of_app p.about.app p.instances (sound.unmarked_at p.kernel.slots) p.slot own.instance p.kernel.tables.waiters
         (sound.unmarked call) params plain waiting (waiting_named p call own params h waiting) fitting.waiters h.tied.waiters.of_app
 
 -- ---- what is noted

@@ -8,7 +8,7 @@ use Rattle.kernel_model.specs.Application.{Application, Booted, uuid_of}
 use Rattle.kernel_model.specs.History.{kernel_after}
 use Rattle.kernel_model.specs.Instances.{app_of, is_single}
 use Rattle.kernel_model.specs.Kernel.{Instance, Kernel}
-use Rattle.kernel_model.specs.Sound.{call_at}
+use Rattle.kernel_model.specs.Sound.{unmarked_at}
 use Rattle.kernel_model.specs.SoundWaiters.{AreWaiters, Awaited, awaited}
 use Rattle.kernel_model.proofs.SoundClaims.{Claims}
 use Rattle.kernel_model.proofs.SoundMemory.{own_uuid}
@@ -31,20 +31,20 @@ module _ (boot : Booted) (history : List Event) (kernel : Kernel) (there : kerne
   of_app : uuid ≡ uuid_of app
   of_app = sym (app_named boot uuid app of_boot)
 
-  are : AreWaiters (call_at kernel.slots) kernel.tables.waiters
+  are : AreWaiters (unmarked_at kernel.slots) kernel.tables.waiters
   are = waiting boot history kernel there
 
   -- an instance that is kept for the application, or that it waits for, is one of the group's
-  claimed : (number : ℕ) → Claims (call_at kernel.slots) kernel.tables.instances number uuid
+  claimed : (number : ℕ) → Claims (unmarked_at kernel.slots) kernel.tables.instances number uuid
       → IsSome (get end.tied.instances number)
   claimed number (inl (instance, kept, same)) =
       (All-get (λ (one : ℕ × Instance). IsOfGroup app end.tied.instances one.0 one.1.uuid) kernel.tables.instances number
       instance end.tied.tied.instances.of_app kept).0 (same ∙ of_app)
   claimed number (inr (slot, wanted)) =
-      let has = waiter_there app end.tied.instances (call_at kernel.slots) slot kernel.tables.waiters
+      let has = waiter_there app end.tied.instances (unmarked_at kernel.slots) slot kernel.tables.waiters
       (are.all slot (subst (λ (a : Option Awaited). IsSome a) (sym wanted) refl)) are.each end.tied.tied.waiters.of_app in
       let same = same_awaited (number, Some uuid) (has.waiter.instance, Some has.waiter.uuid)
-      (sym wanted ∙ ap (λ n. awaited (call_at kernel.slots n)) (sym has.here) ∙ has.waits_so) in
+      (sym wanted ∙ ap (λ n. awaited (unmarked_at kernel.slots n)) (sym has.here) ∙ has.waits_so) in
       subst (λ n. IsSome (get end.tied.instances n)) (sym (ap (λ (a : Awaited). a.0) same))
       (has.of_group.0 (sym (some_same uuid has.waiter.uuid (ap (λ (a : Awaited). a.1) same)) ∙ of_app))
     where

@@ -6,7 +6,7 @@ use Rattle.kernel_model.specs.Application.{Application, Booted, uuid_of}
 use Rattle.kernel_model.specs.History.{kernel_after}
 use Rattle.kernel_model.specs.Instances.{is_single}
 use Rattle.kernel_model.specs.Kernel.{CallPhase, Kernel, PendingCall, Waits}
-use Rattle.kernel_model.specs.Sound.{AreGranted, call_at}
+use Rattle.kernel_model.specs.Sound.{AreGranted, unmarked_at}
 use Rattle.kernel_model.specs.SoundWaiters.{awaited, awaited_in}
 use Rattle.kernel_model.proofs.SoundCallsJoined.{all_joined}
 use Rattle.kernel_model.proofs.SoundNumbers.{numbered}
@@ -30,13 +30,13 @@ pub record IsReady (about : About) (events : ℕ) (kernel : Kernel) (g : Group) 
 
 -- of an application whose sessions share an instance no two are kept or waited for
 awaited_alone : (boot : Booted) (app : Application) (kernel : Kernel) → SharesOne boot app
-    → OneEach boot (call_at kernel.slots) kernel.tables.instances → IsAwaitedAlone app kernel
+    → OneEach boot (unmarked_at kernel.slots) kernel.tables.instances → IsAwaitedAlone app kernel
 awaited_alone boot app kernel shares one_each slot call params there waits_there uuid number instance kept same =
     one_each (uuid_of app) call.instance number
     (ap (λ (o : Option Application). option_map_or is_single o false) shares.of_boot ∙ shares.shares)
     (inr (slot, awaited_is)) (inl (instance, kept, same))
   where
-    awaited_is : awaited (call_at kernel.slots slot) ≡ Some (call.instance, Some (uuid_of app))
+    awaited_is : awaited (unmarked_at kernel.slots slot) ≡ Some (call.instance, Some (uuid_of app))
     awaited_is =
         ap (λ (o : Option PendingCall). awaited o) there
         ∙ ap (λ (p : CallPhase). awaited_in p (call.instance, call.uuid)) waits_there

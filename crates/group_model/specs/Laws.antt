@@ -14,7 +14,7 @@ use Rattle.kernel_model.specs.Instances.{app_of, is_single}
 use Rattle.kernel_model.specs.History.{after_event}
 use Rattle.kernel_model.specs.Resume.{call_resumed_by}
 use Rattle.kernel_model.specs.SoundWaiters.{AreWaiters}
-use Rattle.kernel_model.specs.Sound.{call_at}
+use Rattle.kernel_model.specs.Sound.{unmarked_at}
 use Rattle.kernel_model.specs.SoundNumbers.{AreNumbered}
 use Rattle.kernel_model.specs.SoundOrder.{AreInOrder}
 use Rattle.kernel_model.specs.Kernel.{Active, Fixed, InSlot, Inside, Kernel, PendingCall, Tables, ThreadSlot, first_kernel}
@@ -74,7 +74,7 @@ pub record SharesOne (boot : Booted) (app : Application) : Type 0 where
 
 -- what is taken of each kernel that a legal history comes to
 pub record IsSound (kernel : Kernel) : Type 0 where
-  pub numbers : AreNumbered (call_at kernel.slots) kernel.tables
+  pub numbers : AreNumbered (unmarked_at kernel.slots) kernel.tables
   pub order : AreInOrder kernel.tables
 
 -- ---- laws
@@ -124,7 +124,7 @@ OtherExitsKeepTied =
 abbrev pub OtherResumesKeepTied : Type 0
 OtherResumesKeepTied =
     (boot : Booted) (about : About) (kernel next : Kernel) (cpu steps : ℕ) (regs : Regs) (reads : List Read)
-    (call : PendingCall) (notes : Notes) (g : Group) → AreWaiters (call_at kernel.slots) kernel.tables.waiters →
+    (call : PendingCall) (notes : Notes) (g : Group) → AreWaiters (unmarked_at kernel.slots) kernel.tables.waiters →
     call_of (reg regs.a 0) ≡ Resume → call_resumed_by kernel.slots regs.a ≡ Some call →
     get notes.numbering.in_slots (thread_in regs.a) ≡ None →
     GoesAlongWith boot about kernel next (Entry cpu regs steps reads) notes g

@@ -11,7 +11,7 @@ use Rattle.kernel_model.specs.Application.{Application, Booted, uuid_of}
 use Rattle.kernel_model.specs.Argument.{reg, thread_in}
 use Rattle.kernel_model.specs.Kernel.{Instance, Kernel, PendingCall, Waits}
 use Rattle.kernel_model.specs.Resume.{call_resumed_by}
-use Rattle.kernel_model.specs.Sound.{call_at}
+use Rattle.kernel_model.specs.Sound.{unmarked_at}
 use Rattle.kernel_model.specs.SoundCalls.{AreJoined}
 use Rattle.kernel_model.specs.SoundWaiters.{AreWaiters}
 use Rattle.group_model.specs.Group.{Group}
@@ -22,14 +22,14 @@ use Rattle.group_model.specs.Laws.{About, GoesAlongWith, SharesOne}
 -- where a call waits for an instance of the application, that is the only one of the application that may be kept
 abbrev pub IsAwaitedAlone : Application → Kernel → Type 0
 IsAwaitedAlone app kernel = (slot : ℕ) (call : PendingCall) (params : CopiedParams) →
-    call_at kernel.slots slot ≡ Some call → call.phase ≡ Waits params → call.uuid ≡ Some (uuid_of app) →
+    unmarked_at kernel.slots slot ≡ Some call → call.phase ≡ Waits params → call.uuid ≡ Some (uuid_of app) →
     (number : ℕ) (instance : Instance) → get kernel.tables.instances number ≡ Some instance →
     instance.uuid ≡ uuid_of app → call.instance ≡ number
 
 -- how the calls of each kernel that a legal history comes to fit their sessions and instances, and those that wait
 pub record AreFitting (app : Application) (kernel : Kernel) : Type 0 where
-  pub joined : AreJoined (call_at kernel.slots) kernel.tables
-  pub waiters : AreWaiters (call_at kernel.slots) kernel.tables.waiters
+  pub joined : AreJoined (unmarked_at kernel.slots) kernel.tables
+  pub waiters : AreWaiters (unmarked_at kernel.slots) kernel.tables.waiters
   pub alone : IsAwaitedAlone app kernel
   pub rising : IsRising kernel.tables.sessions
 

@@ -8,7 +8,7 @@ use Rattle.instance_groups.specs.Arriving.{IsArrival, IsArrivalBy, IsArrivalIn, 
 use Rattle.instance_groups.specs.Arriving.{is_open, is_waiting, room_as, room_then, watch}
 use Rattle.instance_groups.specs.declared.arriving.Arrival.{Arrival}
 use Rattle.instance_groups.specs.declared.arriving.Arrival.TheVariants as arrival
-use Rattle.isolation.specs.declared.calls.NewCall.{NewCall}
+use Rattle.isolation.specs.declared.calls.ArrivingCall.{ArrivingCall}
 use Rattle.instance_groups.specs.declared.arriving.Resumed.{Resumed}
 use Rattle.instance_groups.proofs.Plans.{plan_is}
 use Rattle.isolation.specs.Arriving.{IsBackIn, back_as}
@@ -65,7 +65,7 @@ arrives parts app k regs lane prepared came is stands by = record {
 
 -- ---- new calls
 
-new_in_slot : (w : Watch) (regs : List ℕ) (reads : List Read) (slot : ℕ) (call : PendingCall) (tables : Tables) (came : Option NewCall)
+new_in_slot : (w : Watch) (regs : List ℕ) (reads : List Read) (slot : ℕ) (call : PendingCall) (tables : Tables) (came : Option ArrivingCall)
     → IsNew w.kernel tables slot call came → IsArrivalIn w regs reads slot call tables (arrival_of came)
 new_in_slot w regs reads slot call tables None is = is
 new_in_slot w regs reads slot call tables (Some came) is = is

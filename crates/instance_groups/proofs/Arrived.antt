@@ -7,7 +7,7 @@ use Rattle.group_model.specs.declared.group_event.GroupEvent.{GroupEvent}
 use Rattle.group_model.specs.declared.group_event.GroupEvent.TheVariants.{Room, Seen}
 use Rattle.instance_groups.specs.Arriving.{IsNew, IsResumed, Watch, event_as, gets_session}
 use Rattle.instance_groups.specs.Noted.{called_as, has_called, with_input, with_resumed, with_room, with_seen}
-use Rattle.isolation.specs.declared.calls.NewCall.{NewCall}
+use Rattle.isolation.specs.declared.calls.ArrivingCall.{ArrivingCall}
 use Rattle.instance_groups.specs.declared.arriving.Resumed.{Resumed}
 use Rattle.isolation.specs.Arriving.{input_then}
 use Rattle.kernel_model.specs.Application.{Application}
@@ -21,7 +21,7 @@ use Rattle.own_model.specs.Own.{Entering, next_in}
 -- ---- new calls
 
 module _ (app : Application) (notes : Notes) (slot : ℕ) (kernel : Kernel) (tables : Tables) (call : PendingCall) where
-  one_called : (came : NewCall) → IsNew kernel tables slot call (Some came) → (o : Option GroupEvent)
+  one_called : (came : ArrivingCall) → IsNew kernel tables slot call (Some came) → (o : Option GroupEvent)
       → option_map_or (numbered notes slot call) o notes
       ≡ option_map_or (has_called notes slot call.session (gets_session came)) o notes
   one_called came is None = refl
@@ -29,7 +29,7 @@ module _ (app : Application) (notes : Notes) (slot : ℕ) (kernel : Kernel) (tab
       ap (λ (n : Notes). record n { numbering = next_in notes.numbering slot }) (is.sessions (with_event notes event))
 
   -- one that may be of the group
-  pub noted_called : (came : NewCall) → IsNew kernel tables slot call (Some came)
+  pub noted_called : (came : ArrivingCall) → IsNew kernel tables slot call (Some came)
       → call_noted app tables notes slot call ≡ called_as app notes slot call.session came
   noted_called came is =
       ap (λ (o : Option GroupEvent). option_map_or (numbered notes slot call) o notes) (is.event app notes)

@@ -10,7 +10,7 @@ use Rattle.instance_groups.specs.Noted.{called_as, session_of, with_resumed}
 use Rattle.instance_groups.specs.Replaying.{HasArrived, HasArrivedFor, HasArrivedIn}
 use Rattle.instance_groups.specs.declared.arriving.Arrival.{Arrival}
 use Rattle.instance_groups.specs.declared.arriving.Arrival.TheVariants as arrival
-use Rattle.isolation.specs.declared.calls.NewCall.{NewCall}
+use Rattle.isolation.specs.declared.calls.ArrivingCall.{ArrivingCall}
 use Rattle.instance_groups.specs.declared.arriving.Resumed.{Resumed}
 use Rattle.instance_groups.proofs.Arrived.{noted_called, noted_nothing, resumed_so}
 use Rattle.instance_groups.proofs.Decided.{noted_answered, noted_back, noted_new, visit, watched}
@@ -48,7 +48,7 @@ module _ (w : Watch) (next : Kernel) (visitor : Visitor) (reads : List Read) (wo
   entry_noted = event_noted w.boot w.app w.kernel next before (Entry visitor.cpu visitor.regs visitor.steps reads)
 
   -- a new call
-  pub new_called : (came : NewCall) → HasArrivedIn w next visitor reads (arrival.New came) work slot
+  pub new_called : (came : ArrivingCall) → HasArrivedIn w next visitor reads (arrival.New came) work slot
       → called_as w.app before slot (session_of work.call) came ≡ entry_noted
   new_called came has =
       ap (λ (n : ℕ). called_as w.app before slot n came) (session_so work.call has.call has.call.phase has.carries)

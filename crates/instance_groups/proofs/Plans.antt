@@ -8,8 +8,8 @@ use Rattle.group_model.specs.declared.group_event.GroupEvent.{GroupEvent}
 use Rattle.group_model.specs.declared.group_event.GroupEvent.TheVariants as group
 use Rattle.instance_groups.specs.Arriving.{event_as, sessions_as}
 use Rattle.isolation.specs.Calls.{call_by, reserving_open}
-use Rattle.isolation.specs.declared.calls.NewCall.{NewCall}
-use Rattle.isolation.specs.declared.calls.NewCall.TheVariants as new
+use Rattle.isolation.specs.declared.calls.ArrivingCall.{ArrivingCall}
+use Rattle.isolation.specs.declared.calls.ArrivingCall.TheVariants as new
 use Rattle.isolation.specs.declared.calls.SessionCall.TheVariants as in_session
 use Rattle.isolation.proofs.Plans.{begins_there, job_params}
 use Rattle.job_model.specs.declared.call_kind.CallKind.TheVariants as kind
@@ -40,7 +40,7 @@ use Rattle.ta_params.specs.declared.copied_params.CopiedParams.{CopiedParams}
 use Rattle.ta_params.specs.declared.login.Login.{Login}
 
 -- what the slot was taken for is this for a group
-pub record IsPlanned (taken : Taken) (came : Option NewCall) : Type 0 where
+pub record IsPlanned (taken : Taken) (came : Option ArrivingCall) : Type 0 where
   pub event : (app : Application) (notes : Notes) → event_of app taken.tables notes taken.call taken.call.kind
       ≡ option_and_then (event_as app notes taken.call.session) came
   pub sessions : (notes : Notes) → sessions_with taken.call.kind notes taken.call

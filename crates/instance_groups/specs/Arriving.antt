@@ -10,8 +10,8 @@ use Rattle.instance_groups.specs.declared.arriving.Arrival.{Arrival}
 use Rattle.instance_groups.specs.declared.arriving.Arrival.TheVariants as arrival
 use Rattle.instance_groups.specs.declared.arriving.Resumed.{Resumed}
 use Rattle.isolation.specs.Arriving.{IsBack}
-use Rattle.isolation.specs.declared.calls.NewCall.{NewCall}
-use Rattle.isolation.specs.declared.calls.NewCall.TheVariants.{Opens, InSession}
+use Rattle.isolation.specs.declared.calls.ArrivingCall.{ArrivingCall}
+use Rattle.isolation.specs.declared.calls.ArrivingCall.TheVariants.{Opens, InSession}
 use Rattle.isolation.specs.declared.calls.SessionCall.{SessionCall}
 use Rattle.isolation.specs.declared.calls.SessionCall.TheVariants as in_session
 use Rattle.job_model.specs.declared.call_kind.CallKind.{CallKind}
@@ -35,7 +35,7 @@ use Rattle.smc_abi.specs.Call.{call_of}
 
 -- ---- new calls
 
-abbrev pub arrival_of : Option NewCall → Arrival
+abbrev pub arrival_of : Option ArrivingCall → Arrival
 arrival_of None = arrival.Nothing
 arrival_of (Some call) = arrival.New call
 
@@ -48,7 +48,7 @@ event_in (in_session.Close area) session = group.Close session area
 event_in in_session.Cancel session = group.Cancel session
 
 -- what a new call in the kernel's session of this number is as an event of the application's group, if it is one
-abbrev pub event_as : Application → Notes → ℕ → NewCall → Option GroupEvent
+abbrev pub event_as : Application → Notes → ℕ → ArrivingCall → Option GroupEvent
 event_as app notes session (Opens call) =
     if bytes_eq call.uuid (uuid_of app) then Some (group.Open call.input call.login call.limited call.area) else None
 event_as app notes session (InSession call) = option_map (event_in call) (get notes.sessions session)
@@ -60,15 +60,15 @@ with_session notes session = record notes {
   next_session = notes.next_session + 1;
 }
 
-abbrev pub gets_session : NewCall → Bool
+abbrev pub gets_session : ArrivingCall → Bool
 gets_session (Opens call) = call.reserves
 gets_session (InSession call) = false
 
-abbrev pub sessions_as : Notes → ℕ → NewCall → Notes
+abbrev pub sessions_as : Notes → ℕ → ArrivingCall → Notes
 sessions_as notes session call = if gets_session call then with_session notes session else notes
 
 -- a call has come into a free slot, with these tables behind its entry, and is this for a group
-pub record IsNew (kernel : Kernel) (tables : Tables) (slot : ℕ) (call : PendingCall) (came : Option NewCall) : Type 0 where
+pub record IsNew (kernel : Kernel) (tables : Tables) (slot : ℕ) (call : PendingCall) (came : Option ArrivingCall) : Type 0 where
   pub free : slice_get kernel.slots slot ≡ Some Free
   pub event : (app : Application) (notes : Notes) → event_of app tables notes call call.kind
       ≡ option_and_then (event_as app notes call.session) came

@@ -5,7 +5,7 @@ use Rattle.group_model.specs.Read as group
 use Rattle.group_model.specs.declared.group_event.GroupEvent.{GroupEvent}
 use Rattle.group_model.specs.declared.group_event.GroupEvent.TheVariants.{Back, Out, Room, Seen}
 use Rattle.instance_groups.specs.Arriving.{event_as, gets_session, is_open, with_session}
-use Rattle.isolation.specs.declared.calls.NewCall.{NewCall}
+use Rattle.isolation.specs.declared.calls.ArrivingCall.{ArrivingCall}
 use Rattle.instance_groups.specs.declared.arriving.Resumed.{Resumed}
 use Rattle.instance_groups.specs.declared.notes.Notes.{Notes}
 use Rattle.isolation.specs.Noted.{AreNumbers, HasFinished}
@@ -48,7 +48,7 @@ has_called notes slot session gets came =
     record after { numbering = own.next_in notes.numbering slot }
 
 -- a new call in the kernel's session of this number does, where it is one of the group's
-abbrev pub called_as : Application → group.Notes → ℕ → ℕ → NewCall → group.Notes
+abbrev pub called_as : Application → group.Notes → ℕ → ℕ → ArrivingCall → group.Notes
 called_as app notes slot session call =
     option_map_or (has_called notes slot session (gets_session call)) (event_as app notes session call) notes
 

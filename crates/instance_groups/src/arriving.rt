@@ -15,7 +15,7 @@ use base::NoMemory;
 use begin_call::has_pages_for;
 use boxed::Boxed;
 use frame_pool::Pages;
-use isolation::{Back, NewCall, back_in, planned_call};
+use isolation::{ArrivingCall, Back, back_in, planned_call};
 use job_model::CallKind;
 use kernel_entry::{EntryDecision, PlannedCall, Prepared};
 use kernel_state::{Application, Core, Tables};
@@ -38,13 +38,13 @@ pub(crate) enum Arrival {
     /// Nothing: its answer is fixed, or its call is of no group.
     Nothing,
     /// A new call, which is this.
-    New(Boxed<NewCall>),
+    New(Boxed<ArrivingCall>),
     /// A call comes back.
     Back(Boxed<Resumed>),
 }
 
 /// What a new call is, if it may be one of a group.
-fn arrival_of(alloc: Global, call: Option<NewCall>) -> Result<Arrival, NoMemory>
+fn arrival_of(alloc: Global, call: Option<ArrivingCall>) -> Result<Arrival, NoMemory>
     ensures { IfOk result (λ arrival. arrival ≡ arrival_of call) }
 {
     match call {

@@ -16,7 +16,7 @@ use crate::arriving::{Arrival, Resumed};
 use crate::notes::Notes;
 use base::NoMemory;
 use boxed::Boxed;
-use isolation::{NewCall, errand_of};
+use isolation::{ArrivingCall, errand_of};
 use kernel_entry::Visitor;
 use kernel_state::{Carried, Core, Errand, Ran};
 use std::alloc::Global;
@@ -36,7 +36,7 @@ fn note_new(
     alloc: Global,
     notes: &mut Notes,
     slot: u8,
-    call: Boxed<NewCall>,
+    call: Boxed<ArrivingCall>,
     ran: &Ran,
 ) -> Result<(), NoMemory>
     requires slot { slot < 16 }

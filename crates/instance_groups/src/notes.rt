@@ -15,7 +15,7 @@ use base::NoMemory;
 use boxed::Boxed;
 use frame_pool::Pages;
 use group_model::{GroupEvent, GroupReply};
-use isolation::{NewCall, Numbering, SessionCall, reply_of, wake_of};
+use isolation::{ArrivingCall, Numbering, SessionCall, reply_of, wake_of};
 use kernel_state::Application;
 use own_model::{BackInput, OwnReply};
 use rpc_cont::Cont;
@@ -68,12 +68,12 @@ fn event_in(call: SessionCall, session: u32) -> GroupEvent
 }
 
 /// Whether the call is an open that gets a session.
-fn gets_session(call: &NewCall) -> bool
+fn gets_session(call: &ArrivingCall) -> bool
     ensures { result ≡ gets_session call.now }
 {
     match call {
-        NewCall::Opens(call) => call.reserves,
-        NewCall::InSession(_) => false,
+        ArrivingCall::Opens(call) => call.reserves,
+        ArrivingCall::InSession(_) => false,
     }
 }
 
@@ -130,12 +130,12 @@ impl Notes {
     }
 
     /// The event that a new call in the kernel's session of this number is for the group, if it is one of the group's.
-    fn event_of(&self, session: u32, call: NewCall) -> Option<GroupEvent>
+    fn event_of(&self, session: u32, call: ArrivingCall) -> Option<GroupEvent>
         ensures { (notes : group.Notes) → AreNoted self.now notes
             → result ≡ event_as (application_of self.now.app) notes session call }
     {
         match call {
-            NewCall::Opens(call) => {
+            ArrivingCall::Opens(call) => {
                 if call.uuid == self.app.uuid() {
                     Some(GroupEvent::Open {
                         input: call.input,
@@ -147,7 +147,7 @@ impl Notes {
                     None
                 }
             }
-            NewCall::InSession(call) => match number_at(&self.sessions, session) {
+            ArrivingCall::InSession(call) => match number_at(&self.sessions, session) {
                 Some(number) => Some(event_in(call, number)),
                 None => None,
             },
@@ -197,7 +197,7 @@ impl Notes {
         alloc: Global,
         slot: u8,
         session: u32,
-        call: Boxed<NewCall>,
+        call: Boxed<ArrivingCall>,
     ) -> Result<(), NoMemory>
         requires slot { slot < 16 }
         requires few { HasNumbersLeft self.old }

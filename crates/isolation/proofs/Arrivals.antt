@@ -9,7 +9,7 @@ use Rattle.base.specs.NumberMap.{get}
 use Rattle.isolation.specs.Arriving.{IsArrival, IsArrivalBy, IsArrivalIn, IsBack, IsBackIn, IsNew, NamesApp, arrival_as, arrival_of, back_as}
 use Rattle.isolation.specs.Arriving.{event_in, opens_in, seen_then}
 use Rattle.isolation.specs.Calls.{planned_call}
-use Rattle.isolation.specs.declared.calls.NewCall.{NewCall}
+use Rattle.isolation.specs.declared.calls.ArrivingCall.{ArrivingCall}
 use Rattle.isolation.specs.declared.entering.Arrival.{Arrival}
 use Rattle.isolation.specs.declared.entering.Arrival.TheVariants as arrival
 use Rattle.isolation.specs.declared.notes.Back.{Back as BackWith}
@@ -75,7 +75,7 @@ event_in_slot : (k : Kernel) (regs : List ℕ) (reads : List Read) (slot : ℕ) 
 event_in_slot k regs reads slot call opens None is names = is
 event_in_slot k regs reads slot call opens (Some event) is names = record { is_new = is; names = names event refl }
 
-new_in_slot : (k : Kernel) (regs : List ℕ) (reads : List Read) (slot : ℕ) (call : PendingCall) (came : Option NewCall)
+new_in_slot : (k : Kernel) (regs : List ℕ) (reads : List Read) (slot : ℕ) (call : PendingCall) (came : Option ArrivingCall)
     → IsNew k slot call (option_and_then event_in came)
     → ((event : OwnEvent) → option_and_then event_in came ≡ Some event
     → NamesApp call (record { event = event; opens = option_and_then opens_in came }))

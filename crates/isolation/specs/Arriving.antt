@@ -3,8 +3,8 @@ use Rattle.std.specs.Prelude.{◌≡◌, ℕ, ◌==◌, ◌&&◌, not, Bool, tru
 use Rattle.std.specs.Global.{Box}
 use Rattle.std.specs.Option.{option_and_then, option_or}
 use Rattle.isolation.specs.Calls.{call_by}
-use Rattle.isolation.specs.declared.calls.NewCall.{NewCall}
-use Rattle.isolation.specs.declared.calls.NewCall.TheVariants.{Opens, InSession}
+use Rattle.isolation.specs.declared.calls.ArrivingCall.{ArrivingCall}
+use Rattle.isolation.specs.declared.calls.ArrivingCall.TheVariants.{Opens, InSession}
 use Rattle.isolation.specs.declared.calls.SessionCall.TheVariants as in_session
 use Rattle.isolation.specs.declared.entering.Arrival.{Arrival}
 use Rattle.isolation.specs.declared.entering.Arrival.TheVariants as arrival
@@ -47,14 +47,14 @@ open_event (input.Copied params) login area = Some (event.Open params login area
 open_event _ login area = None
 
 -- the event that a new call is for its session: an open only where it gets one
-abbrev pub event_in : NewCall → Option OwnEvent
+abbrev pub event_in : ArrivingCall → Option OwnEvent
 event_in (Opens call) = if call.reserves then open_event call.input call.login call.area else None
 event_in (InSession (in_session.Invoke func came area)) = Some (event.Invoke func came area)
 event_in (InSession (in_session.Close area)) = Some (event.Close area)
 event_in (InSession in_session.Cancel) = Some event.Cancel
 
 -- the UUID of the application of which it opens a session
-abbrev pub opens_in : NewCall → Option (List ℕ)
+abbrev pub opens_in : ArrivingCall → Option (List ℕ)
 opens_in (Opens call) = if call.reserves then Some call.uuid else None
 opens_in (InSession call) = None
 
@@ -71,7 +71,7 @@ arrival_of opens None = arrival.Nothing
 arrival_of opens (Some event) = arrival.New (record { event = event; opens = opens })
 
 -- what a new call is for its session
-abbrev pub arrival_as : Option NewCall → Arrival
+abbrev pub arrival_as : Option ArrivingCall → Arrival
 arrival_as None = arrival.Nothing
 arrival_as (Some call) = arrival_of (opens_in call) (event_in call)
 

@@ -1,7 +1,7 @@
 -- What a new call is, whoever's it is, by its plan.
 use Rattle.std.specs.Prelude.{ℕ, ◌==◌, Bool, true, false, if◌then◌else◌, Option, Some, None, is_some}
-use Rattle.isolation.specs.declared.calls.NewCall.{NewCall}
-use Rattle.isolation.specs.declared.calls.NewCall.TheVariants.{Opens, InSession}
+use Rattle.isolation.specs.declared.calls.ArrivingCall.{ArrivingCall}
+use Rattle.isolation.specs.declared.calls.ArrivingCall.TheVariants.{Opens, InSession}
 use Rattle.isolation.specs.declared.calls.NewOpen.{NewOpen}
 use Rattle.isolation.specs.declared.calls.SessionCall.TheVariants as in_session
 use Rattle.kernel_entry.specs.declared.deciding.PlannedCall.{PlannedCall}
@@ -45,7 +45,7 @@ reserving_open app brought login area = record {
 }
 
 -- what a new call of this function is, with an area or without one
-abbrev pub call_by : ℕ → Bool → Plan → Option NewCall
+abbrev pub call_by : ℕ → Bool → Plan → Option ArrivingCall
 call_by func area (plan.Settles (settled.Call code)) = None
 call_by func area (plan.Settles (settled.Open app login code)) = Some (Opens (settled_open (application_of app) login code area))
 call_by func area (plan.Settles (settled.Invoke code)) = Some (InSession (in_session.Invoke func (invoke_input code) area))
@@ -59,5 +59,5 @@ call_by func area (plan.KeepsBuffer cookie buffer) = None
 call_by func area (plan.DropsBuffer cookie) = None
 
 -- what one is that is planned
-abbrev pub planned_call : PlannedCall → Option NewCall
+abbrev pub planned_call : PlannedCall → Option ArrivingCall
 planned_call planned = call_by planned.entered.head.func (is_some planned.entered.area) planned.plan

@@ -46,7 +46,7 @@ pub enum SessionCall {
 
 /// A new call of an application or of a session.
 #[derive(Drop)]
-pub enum NewCall {
+pub enum ArrivingCall {
     Opens(NewOpen),
     InSession(SessionCall),
 }
@@ -89,21 +89,23 @@ fn settled_open(app: &Application, login: Login, code: u32, area: bool) -> NewOp
 
 /// What a new call is, by what its slot is taken for; the function is the one that its argument names, and it has an area or
 /// not.
-fn call_by(func: u32, area: bool, plan: &Plan) -> Result<Option<NewCall>, NoMemory>
+fn call_by(func: u32, area: bool, plan: &Plan) -> Result<Option<ArrivingCall>, NoMemory>
     ensures { IfOk result (λ call. call ≡ call_by func area plan.now) }
 {
     match plan {
         Plan::Settles(Settled::Open(app, login, code)) => {
-            Ok(Some(NewCall::Opens(settled_open(app, *login, *code, area))))
+            Ok(Some(ArrivingCall::Opens(settled_open(app, *login, *code, area))))
         }
-        Plan::Settles(Settled::Invoke(code)) => Ok(Some(NewCall::InSession(SessionCall::Invoke {
-            func,
-            input: invoke_input(*code),
-            area,
-        }))),
+        Plan::Settles(Settled::Invoke(code)) => Ok(Some(ArrivingCall::InSession(
+            SessionCall::Invoke {
+                func,
+                input: invoke_input(*code),
+                area,
+            },
+        ))),
         Plan::Opens { app, login, copies } => {
             let params = copies.params.clone()?;
-            Ok(Some(NewCall::Opens(NewOpen {
+            Ok(Some(ArrivingCall::Opens(NewOpen {
                 uuid: app.uuid(),
                 input: OwnInput::Copied(params),
                 login: *login,
@@ -114,14 +116,14 @@ fn call_by(func: u32, area: bool, plan: &Plan) -> Result<Option<NewCall>, NoMemo
         }
         Plan::Invokes { copies, .. } => {
             let params = copies.params.clone()?;
-            Ok(Some(NewCall::InSession(SessionCall::Invoke {
+            Ok(Some(ArrivingCall::InSession(SessionCall::Invoke {
                 func,
                 input: OwnInput::Copied(params),
                 area,
             })))
         }
-        Plan::Closes { .. } => Ok(Some(NewCall::InSession(SessionCall::Close { area }))),
-        Plan::Cancels => Ok(Some(NewCall::InSession(SessionCall::Cancel))),
+        Plan::Closes { .. } => Ok(Some(ArrivingCall::InSession(SessionCall::Close { area }))),
+        Plan::Cancels => Ok(Some(ArrivingCall::InSession(SessionCall::Cancel))),
         Plan::Settles(Settled::Call(_)) | Plan::KeepsBuffer { .. } | Plan::DropsBuffer { .. } => {
             Ok(None)
         }
@@ -129,7 +131,7 @@ fn call_by(func: u32, area: bool, plan: &Plan) -> Result<Option<NewCall>, NoMemo
 }
 
 /// What a new call is that is planned: `None` of one that is of no application and no session.
-pub fn planned_call(planned: &PlannedCall) -> Result<Option<NewCall>, NoMemory>
+pub fn planned_call(planned: &PlannedCall) -> Result<Option<ArrivingCall>, NoMemory>
     ensures { IfOk result (λ call. call ≡ planned_call planned.now) }
 {
     let entered = &planned.entered;

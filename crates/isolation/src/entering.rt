@@ -8,7 +8,7 @@ ghost use Rattle.kernel_entry.specs.Resuming.{IsSuspended};
 ghost use Rattle.own_model.specs.Own.{input_of};
 ghost use Rattle.resumed_calls.specs.Giving.{given_as};
 
-use crate::calls::{NewCall, SessionCall, planned_call};
+use crate::calls::{ArrivingCall, SessionCall, planned_call};
 use crate::notes::Back;
 use base::NoMemory;
 use boxed::Boxed;
@@ -58,37 +58,37 @@ fn open_event(input: OwnInput, login: Login, area: bool) -> Option<OwnEvent>
 }
 
 /// The event that a new call is for its session: an open only where it gets one.
-fn event_in(call: NewCall) -> Option<OwnEvent>
+fn event_in(call: ArrivingCall) -> Option<OwnEvent>
     ensures { result ≡ event_in call }
 {
     match call {
-        NewCall::Opens(call) => {
+        ArrivingCall::Opens(call) => {
             if call.reserves {
                 open_event(call.input, call.login, call.area)
             } else {
                 None
             }
         }
-        NewCall::InSession(SessionCall::Invoke { func, input, area }) => {
+        ArrivingCall::InSession(SessionCall::Invoke { func, input, area }) => {
             Some(OwnEvent::Invoke { func, input, area })
         }
-        NewCall::InSession(SessionCall::Close { area }) => Some(OwnEvent::Close { area }),
-        NewCall::InSession(SessionCall::Cancel) => Some(OwnEvent::Cancel),
+        ArrivingCall::InSession(SessionCall::Close { area }) => Some(OwnEvent::Close { area }),
+        ArrivingCall::InSession(SessionCall::Cancel) => Some(OwnEvent::Cancel),
     }
 }
 
 /// The UUID of the application of which a new call opens a session.
-fn opens_in(call: &NewCall) -> Option<Uuid>
+fn opens_in(call: &ArrivingCall) -> Option<Uuid>
     ensures { result ≡ opens_in call.now }
 {
     match call {
-        NewCall::Opens(call) => { if call.reserves { Some(call.uuid) } else { None } }
-        NewCall::InSession(_) => None,
+        ArrivingCall::Opens(call) => { if call.reserves { Some(call.uuid) } else { None } }
+        ArrivingCall::InSession(_) => None,
     }
 }
 
 /// What a new call is for its session.
-fn arrival_of(alloc: Global, call: NewCall) -> Result<Arrival, NoMemory>
+fn arrival_of(alloc: Global, call: ArrivingCall) -> Result<Arrival, NoMemory>
     ensures { IfOk result (λ arrival. arrival ≡ arrival_of (opens_in call) (event_in call)) }
 {
     let opens = opens_in(&call);

@@ -66,7 +66,7 @@ mod session_log;
 mod session_notes;
 
 pub use base::NoMemory;
-pub use calls::{NewCall, NewOpen, SessionCall, planned_call};
+pub use calls::{ArrivingCall, NewOpen, SessionCall, planned_call};
 pub use coming::errand_of;
 pub use entering::back_in;
 pub use going::left_in;

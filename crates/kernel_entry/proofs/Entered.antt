@@ -22,7 +22,7 @@ use Rattle.kernel_model.specs.Entry.{after_decision}
 use Rattle.kernel_model.specs.History.{kernel_after}
 use Rattle.kernel_model.specs.Kernel as kernel
 use Rattle.kernel_model.specs.Kernel.{CallPhase, Runs, Asks, Waits, Ends, Instance, Kernel, PendingCall, ThreadSlot, Outside}
-use Rattle.kernel_model.specs.Sound.{call_at, call_in, unmarked}
+use Rattle.kernel_model.specs.Sound.{unmarked_at, unmarked_in, unmarked}
 use Rattle.kernel_model.specs.SoundMemory.{IsInMemory}
 use Rattle.kernel_state.specs.Calls.{IsCall, IsInPhase, bytes_of}
 use Rattle.kernel_state.specs.Carried.{CanBeGranted}
@@ -59,9 +59,9 @@ booted_so parts so = record {
 }
 
 -- the laws of the tables
-pub sound_so : (parts : Parts) (so : Replays parts) → AreSound (booted_of_setup parts.setup) (call_at so.kernel.slots) (tables_of parts.tables)
+pub sound_so : (parts : Parts) (so : Replays parts) → AreSound (booted_of_setup parts.setup) (unmarked_at so.kernel.slots) (tables_of parts.tables)
 sound_so parts so =
-    subst (λ (tables : kernel.Tables). AreSound (booted_of_setup parts.setup) (call_at so.kernel.slots) tables) (sym so.stands.tables)
+    subst (λ (tables : kernel.Tables). AreSound (booted_of_setup parts.setup) (unmarked_at so.kernel.slots) tables) (sym so.stands.tables)
     (sound_by_laws (booted_of_setup parts.setup) parts.journal.events so.kernel (booted_so parts so) so.comes_to)
 
 -- a resume can be decided
@@ -72,10 +72,10 @@ can_decide parts regs fact = ∥∥₁_map fact (λ (so : Replays parts). record
   stand = so.stands.slots;
   area = λ call area found has.
       (calls_placed (booted_of_setup parts.setup) parts.journal.events so.kernel (booted_so parts so) so.comes_to (thread_in regs) (unmarked call)
-      (ap (option_and_then call_in) (suspended_there so.kernel regs call found))).area area has;
+      (ap (option_and_then unmarked_in) (suspended_there so.kernel regs call found))).area area has;
   placed = λ call buffer found has.
       (calls_placed (booted_of_setup parts.setup) parts.journal.events so.kernel (booted_so parts so) so.comes_to (thread_in regs) (unmarked call)
-      (ap (option_and_then call_in) (suspended_there so.kernel regs call found))).buffer buffer has;
+      (ap (option_and_then unmarked_in) (suspended_there so.kernel regs call found))).buffer buffer has;
 })
 
 pub has_pages : (parts : Parts) → ∥ Replays parts ∥₁ → HasFreePages parts.setup parts.tables

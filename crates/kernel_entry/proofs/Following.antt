@@ -14,7 +14,7 @@ use Rattle.kernel_model.specs.Argument.{client_in, thread_in}
 use Rattle.kernel_model.specs.Kernel as kernel
 use Rattle.kernel_model.specs.Kernel.{Instance, PendingCall, ThreadSlot}
 use Rattle.kernel_model.specs.Resume.{call_resumed_by, suspended_for}
-use Rattle.kernel_model.specs.Sound.{call_at, call_in, unmarked}
+use Rattle.kernel_model.specs.Sound.{unmarked_at, unmarked_in, unmarked}
 use Rattle.kernel_model.specs.SoundCalls.{Fits, HasSession, is_told}
 use Rattle.kernel_state.specs.Calls.{IsCall}
 use Rattle.kernel_state.specs.Replay.{Replays}
@@ -102,7 +102,7 @@ beside_some (Some slot) None held one there is = absurd is
 beside_some (Some slot) (Some beside) held one there is = (beside, refl)
 
 -- no call is in one that is free
-free_held : (beside : Option Cancellation) (held : Option ThreadSlot) → IsSlotAt (Some Free) beside held → option_and_then call_in held ≡ None
+free_held : (beside : Option Cancellation) (held : Option ThreadSlot) → IsSlotAt (Some Free) beside held → option_and_then unmarked_in held ≡ None
 free_held None held is = absurd is
 free_held (Some beside) None is = absurd is
 free_held (Some beside) (Some kernel.Free) is = refl
@@ -123,7 +123,7 @@ fits_so parts entered of fact begins = ∥∥₁_elim fact (plan_prop parts.tabl
     let none = free_held (slice_get parts.cancellations.items entered.slot) (slice_get so.kernel.slots entered.slot)
     (subst (λ (slot : Option (Slot (Box (Cont (List ℕ))))). IsSlotAt slot (slice_get parts.cancellations.items entered.slot) (slice_get so.kernel.slots entered.slot)) free
     (so.stands.slots entered.slot)) in
-    fits_plan parts.setup (call_at so.kernel.slots) parts.tables entered of so.is_boot (sound_so parts so) none entered.is_slot so.stands.pages begins.applies)
+    fits_plan parts.setup (unmarked_at so.kernel.slots) parts.tables entered of so.is_boot (sound_so parts so) none entered.is_slot so.stands.pages begins.applies)
 
 can_take_slot : (parts : Parts) (entered : Entered) (of : Plan) → ∥ Replays parts ∥₁ → 0 < parts.blanks.kept → CanBegin parts entered of → CanTakeSlot parts entered of
 can_take_slot parts entered of fact blank begins = record {
@@ -182,11 +182,11 @@ can_resume : (parts : Parts) (regs : List ℕ) (decided : Decided) (cont : Box (
 can_resume parts regs decided cont beside so out there =
     let slot = thread_in regs in
     let tables = tables_of parts.tables in
-    let calls = call_at so.kernel.slots in
+    let calls = unmarked_at so.kernel.slots in
     let sound = sound_so parts so in
     let its = handed_out (client_in regs) (slice_get parts.slots slot) beside (slice_get so.kernel.slots slot) cont
     (subst (λ (beside : Option Cancellation). IsSlotAt (slice_get parts.slots slot) beside (slice_get so.kernel.slots slot)) there (so.stands.slots slot)) out in
-    let in_slot : calls slot ≡ Some (unmarked its.call) = ap (option_and_then call_in) its.suspended in
+    let in_slot : calls slot ≡ Some (unmarked its.call) = ap (option_and_then unmarked_in) its.suspended in
     record {
       call = its.call;
       is = its.is;

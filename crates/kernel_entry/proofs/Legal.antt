@@ -26,7 +26,7 @@ use Rattle.kernel_model.specs.Instances.{app_of, free_pages, is_single, pages_of
 use Rattle.kernel_model.specs.Kernel as model
 use Rattle.kernel_model.specs.Kernel.{Instance, Kernel}
 use Rattle.kernel_model.specs.NewCall.{NewCall, has_pages, shared_by}
-use Rattle.kernel_model.specs.Sound.{Calls, call_at}
+use Rattle.kernel_model.specs.Sound.{Calls, unmarked_at}
 use Rattle.kernel_model.specs.SoundInstances.{AreFew}
 use Rattle.kernel_model.specs.SoundMemory.{AreInMemory, IsInMemory, KeepsMemory}
 use Rattle.kernel_model.specs.SoundOrder.{AreInOrder}
@@ -58,7 +58,7 @@ pub record AreSound (boot : Booted) (calls : Calls) (tables : model.Tables) : Ty
   pub few : AreFew tables
 
 pub sound_by_laws : (boot : Booted) (history : List Event) (kernel : Kernel) → IsBooted boot → kernel_after boot history ≡ Some kernel →
-    AreSound boot (call_at kernel.slots) kernel.tables
+    AreSound boot (unmarked_at kernel.slots) kernel.tables
 sound_by_laws boot history kernel booted comes = record {
   before = record {
     joined = kernels_joined boot history kernel booted comes;

@@ -17,7 +17,7 @@ use Rattle.kernel_model.specs.Exit.{exit, exit_of, goes_out_from, progress_held,
 use Rattle.kernel_model.specs.History.{kernel_after}
 use Rattle.kernel_model.specs.Kernel.{CallPhase, Runs, Asks, Waits, Ends, Instance, Kernel, PendingCall, Processor, Progress, Tables, ThreadSlot, Active, Inside, InSlot, Suspended, Visit}
 use Rattle.kernel_model.specs.Leaving as model
-use Rattle.kernel_model.specs.Sound.{call_at, call_in, unmarked}
+use Rattle.kernel_model.specs.Sound.{unmarked_at, unmarked_in, unmarked}
 use Rattle.kernel_model.specs.Instances.{pages_of}
 use Rattle.kernel_model.specs.SoundCalls.{Fits, HasSession, Holds, is_in_session, is_told, job_in}
 use Rattle.kernel_model.specs.SoundMemory.{memory_in, memory_of}
@@ -160,10 +160,10 @@ asks_stays slot call its wanted payload is =
 
 pub asks_there : (slots : List ThreadSlot) (slot : ℕ) (held : ThreadSlot) (call : PendingCall) (its : Job) (wanted : Rpc) (payload : List ℕ) →
     slice_get slots slot ≡ Some held → call.phase ≡ Asks its wanted payload →
-    call_at (slice_set slots slot (slot_left call (model.leaving_of slot call))) slot ≡ Some (unmarked call)
+    unmarked_at (slice_set slots slot (slot_left call (model.leaving_of slot call))) slot ≡ Some (unmarked call)
 asks_there slots slot held call its wanted payload there is =
-    ap (option_and_then call_in) (set_found slots slot (slot_left call (model.leaving_of slot call)) held there)
-    ∙ ap call_in (asks_stays slot call its wanted payload is)
+    ap (option_and_then unmarked_in) (set_found slots slot (slot_left call (model.leaving_of slot call)) held there)
+    ∙ ap unmarked_in (asks_stays slot call its wanted payload is)
 
 -- ---- what it comes to finds its session and its instance
 
@@ -235,7 +235,7 @@ pub can_end : (boot : Booted) (history : List Event) (kernel : Kernel) (cpu slot
     IsBooted boot → kernel_after boot history ≡ Some kernel → slice_get kernel.slots slot ≡ Some (Active cpu call) →
     HasRunOut cont why call steps → phase_after why ≡ phase.Ends → CanEnd boot kernel.tables cont
 can_end boot history kernel cpu slot call cont why steps booted comes active out ends =
-    let there : call_at kernel.slots slot ≡ Some (unmarked call) = ap (option_and_then call_in) active in
+    let there : unmarked_at kernel.slots slot ≡ Some (unmarked call) = ap (option_and_then unmarked_in) active in
     let keeps = kept_by_run steps out.before cont why out.ran in
     let fits : Fits kernel.tables slot (unmarked call) = (kernels_joined boot history kernel booted comes).each slot (unmarked call) there in
     let holds : Holds (get kernel.tables.instances call.instance) slot (unmarked call) = fits.instance.working out.job (ap job_in out.runs) in
@@ -276,7 +276,7 @@ can_come boot history kernel cpu slot call cont (Some why) steps booted comes ac
     λ ends. can_end boot history kernel cpu slot call cont why steps booted comes active out ends
 can_come boot history kernel cpu slot call cont None steps booted comes active out = λ ends undone opens.
     unrun_session kernel.tables slot (unmarked call) cont
-    ((kernels_joined boot history kernel booted comes).each slot (unmarked call) (ap (option_and_then call_in) active))
+    ((kernels_joined boot history kernel booted comes).each slot (unmarked call) (ap (option_and_then unmarked_in) active))
     (record {
       client = out.0.client;
       kind = out.0.kind;

@@ -17,7 +17,7 @@ use Rattle.kernel_model.specs.Exit.{Exited, exit, exit_of, goes_out, goes_out_fr
 use Rattle.kernel_model.specs.History.{exit_after, kernel_after}
 use Rattle.kernel_model.specs.Kernel as model
 use Rattle.kernel_model.specs.Leaving.{leaving_of}
-use Rattle.kernel_model.specs.Sound.{call_in, unmarked}
+use Rattle.kernel_model.specs.Sound.{unmarked_in, unmarked}
 use Rattle.kernel_model.specs.SoundPlaces.{HasItsPlaces}
 use Rattle.kernel_model.specs.SoundRequests.{HasFittingRequest}
 use Rattle.kernel_model.proofs.SoundPlaces.{calls_placed}
@@ -113,7 +113,7 @@ goes_from_slot parts ran came slot its =
     let exits = exits_from boot parts.journal.events its.kernel ran.cpu slot its.goes.steps came.a carries.call its.booted its.comes its.goes.inside carries.active in
     let stays = stays_so its.kernel.tables carries.call its.goes.steps exits.progress exits.comes in
     let has : HasItsPlaces (unmarked carries.call) =
-    calls_placed boot parts.journal.events its.kernel its.booted its.comes slot (unmarked carries.call) (ap (option_and_then call_in) carries.active) in
+    calls_placed boot parts.journal.events its.kernel its.booted its.comes slot (unmarked carries.call) (ap (option_and_then unmarked_in) carries.active) in
     record {
       its = its;
       carries = carries;

@@ -30,7 +30,7 @@ use Rattle.kernel_model.specs.NewCall.{settles_invoke, settles_open, shares_one,
 use Rattle.kernel_model.specs.NewCall.{listed_pages, named_session, new_call_in, new_call_of, new_call_with}
 use Rattle.kernel_model.specs.NewCall.{open_session, parameters, register_memory, unregister_memory}
 use Rattle.kernel_model.specs.Resume.{call_resumed_by, resume_call, takes_call}
-use Rattle.kernel_model.specs.Sound.{call_in, unmarked}
+use Rattle.kernel_model.specs.Sound.{unmarked_in, unmarked}
 use Rattle.kernel_model.proofs.Copied.{HaveGoodPages, argument_inside}
 use Rattle.kernel_model.proofs.SoundPlaces.{calls_placed}
 use Rattle.kernel_model.proofs.SoundRequests.{calls_fit}
@@ -317,7 +317,7 @@ module _ (boot : Booted) (history : List Event) (kernel : Kernel) (boots : IsBoo
   resumed_fits : (regs : List ℕ) (call : PendingCall) → call_resumed_by kernel.slots regs ≡ Some call → IsFitting call
   resumed_fits regs call some =
       let slot = thread_in regs in
-      let there = ap (λ (o : Option ThreadSlot). option_and_then call_in o) (suspended_there kernel regs call some) in
+      let there = ap (λ (o : Option ThreadSlot). option_and_then unmarked_in o) (suspended_there kernel regs call some) in
       let placed = calls_placed boot history kernel boots comes slot (unmarked call) there in
       let fits = calls_fit boot history kernel boots comes slot (unmarked call) there in
       record {

@@ -16,7 +16,7 @@ use Rattle.kernel_model.specs.History.{after_event, kernel_after}
 use Rattle.kernel_model.specs.Kernel.{Asks, CallPhase, Ends, Instance, Kernel, PendingCall, Progress, Runs, Tables, Waits}
 use Rattle.kernel_model.specs.NewCall.{NewCall, new_call_of}
 use Rattle.kernel_model.specs.Resume.{Resumed, onward_of, resumed_call}
-use Rattle.kernel_model.specs.Sound.{Calls, call_at}
+use Rattle.kernel_model.specs.Sound.{Calls, unmarked_at}
 use Rattle.kernel_model.specs.SoundCalls.{AreJoined, Fits, HasSession, is_over, is_told}
 use Rattle.kernel_model.specs.SoundNumbers.{is_on_instance}
 use Rattle.kernel_model.specs.SoundWaiters.{Awaited, awaited, awaited_in}
@@ -46,7 +46,7 @@ ClaimedFor number uuid calls instances = (other : List ℕ) → Claims calls ins
 -- given
 pub record IsOfApp (session instance : ℕ) (uuid : List ℕ) (kernel : Kernel) : Type 0 where
   pub on : All (IsOn session instance) kernel.tables.sessions
-  pub claimed : ClaimedFor instance uuid (call_at kernel.slots) kernel.tables.instances
+  pub claimed : ClaimedFor instance uuid (unmarked_at kernel.slots) kernel.tables.instances
   pub session_given : session < kernel.tables.next_session
   pub instance_given : instance < kernel.tables.next_instance
 
@@ -181,7 +181,7 @@ module _ (boot : Booted) (before : List Event) (kernel next : Kernel) (happened 
 pub record HasOpen (session : ℕ) (uuid : List ℕ) (kernel : Kernel) : Type 0 where
   pub slot : ℕ
   pub call : PendingCall
-  pub in_slot : call_at kernel.slots slot ≡ Some call
+  pub in_slot : unmarked_at kernel.slots slot ≡ Some call
   pub opens : call.kind ≡ Open
   pub untold : is_told call.phase ≡ false
   pub of_session : call.session ≡ session
@@ -219,7 +219,7 @@ awaits (Some call) number uuid e = by call.phase refl e
 
 module _ (boot : Booted) (history : List Event) (kernel : Kernel) (there : kernel_after boot history ≡ Some kernel)
     (session : ℕ) (uuid : List ℕ) (has : HasOpen session uuid kernel) where
-  joined : AreJoined (call_at kernel.slots) kernel.tables
+  joined : AreJoined (unmarked_at kernel.slots) kernel.tables
   joined = all_joined boot history kernel there
 
   fits : Fits kernel.tables has.slot has.call
@@ -231,11 +231,11 @@ module _ (boot : Booted) (history : List Event) (kernel : Kernel) (there : kerne
   on_one : is_on_instance has.call.kind ≡ true
   on_one = ap is_on_instance has.opens
 
-  claimed_so : ClaimedFor has.call.instance uuid (call_at kernel.slots) kernel.tables.instances
+  claimed_so : ClaimedFor has.call.instance uuid (unmarked_at kernel.slots) kernel.tables.instances
   claimed_so other (inl (instance, kept, same)) =
       sym same ∙ some_same instance.uuid uuid (sym (fits.instance.application instance on_one kept) ∙ has.of_app)
   claimed_so other (inr (at, waited)) =
-      let its = awaits (call_at kernel.slots at) has.call.instance other waited in
+      let its = awaits (unmarked_at kernel.slots at) has.call.instance other waited in
       let on_its = (joined.each at its.call its.there).instance.settled its.over in
       some_same other uuid
       (sym its.app ∙ joined.applications at has.slot its.call has.call its.there has.in_slot on_its on_one its.instance ∙ has.of_app)

@@ -22,7 +22,7 @@ use Rattle.kernel_model.specs.Kernel.{Active, Asks, CallPhase, Ends, Free, Insta
 use Rattle.kernel_model.specs.Located.{cookie_of}
 use Rattle.kernel_model.specs.NewCall.{NewCall, beginner, new_call_of, no_copies, opener, shared_by, shares_one}
 use Rattle.kernel_model.specs.Resume.{Resumed, app_of_call, onward_of, phase_after, phase_seen, resumed_call, sees, who_resumes}
-use Rattle.kernel_model.specs.Sound.{Calls, call_at, call_in, unmarked}
+use Rattle.kernel_model.specs.Sound.{Calls, unmarked_at, unmarked_in, unmarked}
 use Rattle.kernel_model.specs.SoundCalls.{AreJoined, job_in}
 use Rattle.kernel_model.specs.SoundNumbers.{is_on_instance}
 use Rattle.kernel_model.proofs.Parts.{if-both}
@@ -190,42 +190,42 @@ module _ (So : OfBody) (stays : StaysSo So) where
       (λ same. subst (HoldsAt So) (sym changes.here ∙ ap after same) so)
       (λ apart. subst (HoldsAt So) (sym (changes.others at apart)) (all at))
 
-  body_cases : (boot : Booted) (kernel : Kernel) (cpu : ℕ) → Before (call_at kernel.slots) kernel.tables → BeginsSo So boot kernel.tables
-      → AllHold So (call_at kernel.slots) → EventCases boot kernel cpu (λ next. AllHold So (call_at next.slots))
+  body_cases : (boot : Booted) (kernel : Kernel) (cpu : ℕ) → Before (unmarked_at kernel.slots) kernel.tables → BeginsSo So boot kernel.tables
+      → AllHold So (unmarked_at kernel.slots) → EventCases boot kernel cpu (λ next. AllHold So (unmarked_at next.slots))
   body_cases boot kernel cpu sound begins all = record {
     answered = λ visit answer inside. all;
     comes = λ visit slot found bytes inside free lies fits.
         let c = new_call_of boot kernel.tables visit.regs slot found bytes in
         let there = free_there kernel.slots slot free in
-        cases_onward c (λ taken. HoldsIn So taken.call.phase) (λ taken. AllHold So (call_at (after_decision kernel visit (Takes slot taken)).slots))
-        (λ taken so. bodies_change (call_at kernel.slots) _ slot (Some (unmarked taken.call))
+        cases_onward c (λ taken. HoldsIn So taken.call.phase) (λ taken. AllHold So (unmarked_at (after_decision kernel visit (Takes slot taken)).slots))
+        (λ taken so. bodies_change (unmarked_at kernel.slots) _ slot (Some (unmarked taken.call))
         (takes_slot kernel.slots taken.cancels slot visit.cpu Free taken.call there) all so)
-        (new_bodies So (call_at kernel.slots) c (before_pinned (cookie_of found) kernel.tables slot (call_at kernel.slots) sound) (ap (λ (o : Option ThreadSlot). option_and_then call_in o) there) (record { made = begins.made; kept = begins.kept }));
+        (new_bodies So (unmarked_at kernel.slots) c (before_pinned (cookie_of found) kernel.tables slot (unmarked_at kernel.slots) sound) (ap (λ (o : Option ThreadSlot). option_and_then unmarked_in o) there) (record { made = begins.made; kept = begins.kept }));
     resumes = λ visit call given inside there offered.
         let slot = thread_in visit.regs in
         let r = resumed_call boot kernel.tables slot call given in
         let taken = resumed_taken boot kernel visit call given in
-        let at = ap (λ (o : Option ThreadSlot). option_and_then call_in o) there in
+        let at = ap (λ (o : Option ThreadSlot). option_and_then unmarked_in o) there in
         let so : HoldsIn So call.phase = subst (HoldsAt So) at (all slot) in
-        bodies_change (call_at kernel.slots) _ slot (Some (unmarked taken.call))
+        bodies_change (unmarked_at kernel.slots) _ slot (Some (unmarked taken.call))
         (takes_slot kernel.slots taken.cancels slot visit.cpu (Suspended (client_in visit.regs) call) taken.call there) all
-        (resumed_bodies (call_at kernel.slots) r sound.joined begins (unmarked call) at (resumed_on given call) (given_holds given (sees call) (sees_holds call so)));
+        (resumed_bodies (unmarked_at kernel.slots) r sound.joined begins (unmarked call) at (resumed_on given call) (given_holds given (sees call) (sees_holds call so)));
     told = λ visit answer its fixed. all;
     goes = λ visit slot worker call progress its inside there e.
-        let so : HoldsIn So call.phase = subst (HoldsAt So) (ap (λ (o : Option ThreadSlot). option_and_then call_in o) there) (all slot) in
+        let so : HoldsIn So call.phase = subst (HoldsAt So) (ap (λ (o : Option ThreadSlot). option_and_then unmarked_in o) there) (all slot) in
         let after = exit_bodies kernel.tables call visit.steps progress so e in
-        left_all slot progress.call (λ held. AllHold So (call_at (slice_set kernel.slots slot held)))
-        (bodies_change (call_at kernel.slots) _ slot _ (leaves_slot kernel.slots slot (Active worker call) (Suspended progress.call.client progress.call) there) all after)
-        (bodies_change (call_at kernel.slots) _ slot _
+        left_all slot progress.call (λ held. AllHold So (unmarked_at (slice_set kernel.slots slot held)))
+        (bodies_change (unmarked_at kernel.slots) _ slot _ (leaves_slot kernel.slots slot (Active worker call) (Suspended progress.call.client progress.call) there) all after)
+        (bodies_change (unmarked_at kernel.slots) _ slot _
         (leaves_slot kernel.slots slot (Active worker call) (Suspended progress.call.client (unbuffered progress.call)) there) all after)
-        (λ result params told is. bodies_change (call_at kernel.slots) _ slot _ (leaves_slot kernel.slots slot (Active worker call) Free there) all tt);
+        (λ result params told is. bodies_change (unmarked_at kernel.slots) _ slot _ (leaves_slot kernel.slots slot (Active worker call) Free there) all tt);
   }
 
   -- it holds of all jobs where it holds of those that begin
   pub all_bodies : (boot : Booted)
       → ((before : List Event) (kernel : Kernel) → kernel_after boot before ≡ Some kernel → BeginsSo So boot kernel.tables)
-      → (history : List Event) (kernel : Kernel) → kernel_after boot history ≡ Some kernel → AllHold So (call_at kernel.slots)
-  all_bodies boot begins = holds_along boot (λ k. AllHold So (call_at k.slots)) (λ slot. subst (HoldsAt So) (sym (none_at_first boot.threads slot)) tt)
+      → (history : List Event) (kernel : Kernel) → kernel_after boot history ≡ Some kernel → AllHold So (unmarked_at kernel.slots)
+  all_bodies boot begins = holds_along boot (λ k. AllHold So (unmarked_at k.slots)) (λ slot. subst (HoldsAt So) (sym (none_at_first boot.threads slot)) tt)
       (λ before k cpu there all. body_cases boot k cpu (record {
         joined = all_joined boot before k there;
         numbers = numbered boot before k there;

@@ -14,7 +14,7 @@ use Rattle.kernel_model.specs.Leaving.{leaving_of}
 use Rattle.kernel_model.specs.Located.{cookie_of}
 use Rattle.kernel_model.specs.NewCall.{new_call_of}
 use Rattle.kernel_model.specs.Resume.{resumed_call}
-use Rattle.kernel_model.specs.Sound.{Always, Calls, call_at, call_in, unmarked}
+use Rattle.kernel_model.specs.Sound.{Always, Calls, unmarked_at, unmarked_in, unmarked}
 use Rattle.kernel_model.specs.SoundCalls.{AreJoined, job_in}
 use Rattle.kernel_model.proofs.SoundEndedJoined.{exit_fits}
 use Rattle.kernel_model.proofs.SoundEvents.{EventCases, holds_along, resumed_taken}
@@ -30,43 +30,43 @@ use Rattle.kernel_model.proofs.SoundSlots.{Changes, free_there, leaves_slot, non
 use Rattle.kernel_model.proofs.SoundWaiters.{waiting}
 
 abbrev AfterJoined : Kernel → Type 0
-AfterJoined next = AreJoined (call_at next.slots) next.tables
+AfterJoined next = AreJoined (unmarked_at next.slots) next.tables
 
 -- the calls, where the slot is left with this one
 abbrev suspended_at : Kernel → ℕ → PendingCall → Calls
-suspended_at kernel slot call = call_at (slice_set kernel.slots slot (Suspended call.client call))
+suspended_at kernel slot call = unmarked_at (slice_set kernel.slots slot (Suspended call.client call))
 
 nothing_is : {P : Type 0} (call : PendingCall) → None ≡ Some call → P
 nothing_is call e = absurd cc
 
-joined_cases : (boot : Booted) (kernel : Kernel) (cpu : ℕ) → Before (call_at kernel.slots) kernel.tables → EventCases boot kernel cpu AfterJoined
+joined_cases : (boot : Booted) (kernel : Kernel) (cpu : ℕ) → Before (unmarked_at kernel.slots) kernel.tables → EventCases boot kernel cpu AfterJoined
 joined_cases boot kernel cpu sound = record {
   answered = λ visit answer inside. sound.joined;
   comes = λ visit slot found bytes inside free lies fits.
       let c = new_call_of boot kernel.tables visit.regs slot found bytes in
       let there = free_there kernel.slots slot free in
-      cases_onward c (NewFits (call_at kernel.slots) c) (λ taken. AfterJoined (after_decision kernel visit (Takes slot taken)))
+      cases_onward c (NewFits (unmarked_at kernel.slots) c) (λ taken. AfterJoined (after_decision kernel visit (Takes slot taken)))
       (λ taken new. new _ (takes_slot kernel.slots taken.cancels slot visit.cpu Free taken.call there))
-      (new_fits (call_at kernel.slots) c (before_pinned (cookie_of found) kernel.tables slot (call_at kernel.slots) sound) (ap (λ (o : Option ThreadSlot). option_and_then call_in o) there));
+      (new_fits (unmarked_at kernel.slots) c (before_pinned (cookie_of found) kernel.tables slot (unmarked_at kernel.slots) sound) (ap (λ (o : Option ThreadSlot). option_and_then unmarked_in o) there));
   resumes = λ visit call given inside there offered.
       let slot = thread_in visit.regs in
       let taken = resumed_taken boot kernel visit call given in
-      resumed_fits (call_at kernel.slots) (resumed_call boot kernel.tables slot call given) sound.joined (unmarked call)
-      (ap (λ (o : Option ThreadSlot). option_and_then call_in o) there) (resumed_on given call) _
+      resumed_fits (unmarked_at kernel.slots) (resumed_call boot kernel.tables slot call given) sound.joined (unmarked call)
+      (ap (λ (o : Option ThreadSlot). option_and_then unmarked_in o) there) (resumed_on given call) _
       (takes_slot kernel.slots taken.cancels slot visit.cpu (Suspended (client_in visit.regs) call) taken.call there);
   told = λ visit answer its fixed. sound.joined;
   goes = λ visit slot worker call progress its inside there e.
-      let fits = exit_fits (call_at kernel.slots) kernel.tables slot call sound.joined (ap (λ (o : Option ThreadSlot). option_and_then call_in o) there)
+      let fits = exit_fits (unmarked_at kernel.slots) kernel.tables slot call sound.joined (ap (λ (o : Option ThreadSlot). option_and_then unmarked_in o) there)
       visit.steps progress e in
       left slot worker call progress there fits;
 }
   where
     left : (slot worker : ℕ) (call : PendingCall) (progress : Progress) → slice_get kernel.slots slot ≡ Some (Active worker call)
-        → OnwardFits (call_at kernel.slots) slot progress
-        → AreJoined (call_at (slice_set kernel.slots slot (slot_left progress.call (leaving_of slot progress.call))))
+        → OnwardFits (unmarked_at kernel.slots) slot progress
+        → AreJoined (unmarked_at (slice_set kernel.slots slot (slot_left progress.call (leaving_of slot progress.call))))
         (tables_left progress.tables slot (slot_left progress.call (leaving_of slot progress.call)))
     left slot worker call progress there fits =
-        left_all slot progress.call (λ held. AreJoined (call_at (slice_set kernel.slots slot held)) (tables_left progress.tables slot held))
+        left_all slot progress.call (λ held. AreJoined (unmarked_at (slice_set kernel.slots slot held)) (tables_left progress.tables slot held))
         joined
         (goes_on_joined (suspended_at kernel slot progress.call) _ progress.tables slot (unmarked progress.call) (unmarked (unbuffered progress.call))
         (from_mid (Suspended progress.call.client (unbuffered progress.call))) joined changes.here
@@ -78,13 +78,13 @@ joined_cases boot kernel cpu sound = record {
         (λ other instance none on kept. nothing_is other none) (λ other another differ held. (joined.each other another held).session)
         (λ other none. nothing_is other none))
       where
-        changes : Changes (call_at kernel.slots) (suspended_at kernel slot progress.call) slot (Some (unmarked progress.call))
+        changes : Changes (unmarked_at kernel.slots) (suspended_at kernel slot progress.call) slot (Some (unmarked progress.call))
         changes = leaves_slot kernel.slots slot (Active worker call) (Suspended progress.call.client progress.call) there
 
         joined : AreJoined (suspended_at kernel slot progress.call) progress.tables
         joined = fits (suspended_at kernel slot progress.call) changes
 
-        from_mid : (held : ThreadSlot) → Changes (suspended_at kernel slot progress.call) (call_at (slice_set kernel.slots slot held)) slot (call_in held)
+        from_mid : (held : ThreadSlot) → Changes (suspended_at kernel slot progress.call) (unmarked_at (slice_set kernel.slots slot held)) slot (unmarked_in held)
         from_mid held =
             let now = leaves_slot kernel.slots slot (Active worker call) held there in
             record { here = now.here; others = λ other apart. now.others other apart ∙ sym (changes.others other apart) }
@@ -107,5 +107,5 @@ all_joined boot history kernel e =
       rising = (in_order boot before k there).instances;
     })) history kernel e
 
-pub kernels_joined : Always (λ boot kernel. AreJoined (call_at kernel.slots) kernel.tables)
+pub kernels_joined : Always (λ boot kernel. AreJoined (unmarked_at kernel.slots) kernel.tables)
 kernels_joined boot history kernel booted e = all_joined boot history kernel e

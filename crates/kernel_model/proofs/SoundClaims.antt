@@ -22,7 +22,7 @@ use Rattle.kernel_model.specs.Located.{cookie_of}
 use Rattle.kernel_model.specs.NewCall.{NewCall, new_call_of, shared_by}
 use Rattle.kernel_model.specs.Resume.{Resumed, onward_of, resumed_call, sees}
 use Rattle.kernel_model.specs.Sessions.{sessions_after, sessions_after_panic}
-use Rattle.kernel_model.specs.Sound.{Calls, call_at, call_in, unmarked}
+use Rattle.kernel_model.specs.Sound.{Calls, unmarked_at, unmarked_in, unmarked}
 use Rattle.kernel_model.specs.SoundCalls.{AreJoined, Holds, is_in_session, job_in}
 use Rattle.kernel_model.specs.SoundWaiters.{Awaited, IsWaiter, awaited, awaited_in}
 use Rattle.kernel_model.proofs.Parts.{option_map_some}
@@ -332,39 +332,39 @@ module _ (boot : Booted) (next : ℕ) (P : Calls → NumberMap Instance → Type
 -- ---- events
 
 abbrev pub AfterClaims : (Calls → NumberMap Instance → Type 0) → Kernel → Type 0
-AfterClaims P next = P (call_at next.slots) next.tables.instances
+AfterClaims P next = P (unmarked_at next.slots) next.tables.instances
 
 pub claim_cases : (boot : Booted) (P : Calls → NumberMap Instance → Type 0) (kernel : Kernel) (cpu : ℕ) → IsKeptUp boot kernel.tables.next_instance P
-    → Before (call_at kernel.slots) kernel.tables → AfterClaims P kernel → EventCases boot kernel cpu (AfterClaims P)
+    → Before (unmarked_at kernel.slots) kernel.tables → AfterClaims P kernel → EventCases boot kernel cpu (AfterClaims P)
 claim_cases boot P kernel cpu keeps sound holds = record {
   answered = λ visit answer inside. holds;
   comes = λ visit slot found bytes inside free lies fits.
       let c = new_call_of boot kernel.tables visit.regs slot found bytes in
       let there = free_there kernel.slots slot free in
-      cases_onward c (NewClaims P (call_at kernel.slots) c) (λ taken. AfterClaims P (after_decision kernel visit (Takes slot taken)))
+      cases_onward c (NewClaims P (unmarked_at kernel.slots) c) (λ taken. AfterClaims P (after_decision kernel visit (Takes slot taken)))
       (λ taken new. new _ (takes_slot kernel.slots taken.cancels slot visit.cpu Free taken.call there))
-      (new_claims P (call_at kernel.slots) c keeps (before_pinned (cookie_of found) kernel.tables slot (call_at kernel.slots) sound)
-      (ap (λ (o : Option ThreadSlot). option_and_then call_in o) there) holds);
+      (new_claims P (unmarked_at kernel.slots) c keeps (before_pinned (cookie_of found) kernel.tables slot (unmarked_at kernel.slots) sound)
+      (ap (λ (o : Option ThreadSlot). option_and_then unmarked_in o) there) holds);
   resumes = λ visit call given inside there offered.
       let slot = thread_in visit.regs in
       let taken = resumed_taken boot kernel visit call given in
-      let its = ap (λ (o : Option ThreadSlot). awaited (option_and_then call_in o)) there ∙ sym (given_awaits given (sees call) ∙ sees_awaits call) in
-      resumed_claims kernel.tables.next_instance P (call_at kernel.slots) (resumed_call boot kernel.tables slot call given) keeps sound.joined holds its (unmarked call)
-      (ap (λ (o : Option ThreadSlot). option_and_then call_in o) there) (resumed_on given call) _
+      let its = ap (λ (o : Option ThreadSlot). awaited (option_and_then unmarked_in o)) there ∙ sym (given_awaits given (sees call) ∙ sees_awaits call) in
+      resumed_claims kernel.tables.next_instance P (unmarked_at kernel.slots) (resumed_call boot kernel.tables slot call given) keeps sound.joined holds its (unmarked call)
+      (ap (λ (o : Option ThreadSlot). option_and_then unmarked_in o) there) (resumed_on given call) _
       (takes_slot kernel.slots taken.cancels slot visit.cpu (Suspended (client_in visit.regs) call) taken.call there);
   told = λ visit answer its fixed. holds;
   goes = λ visit slot worker call progress its inside there e.
       left slot worker call progress there
-      (exit_claims boot kernel.tables.next_instance P keeps (call_at kernel.slots) kernel.tables slot call sound.joined holds (ap (λ (o : Option ThreadSlot). option_and_then call_in o) there)
+      (exit_claims boot kernel.tables.next_instance P keeps (unmarked_at kernel.slots) kernel.tables slot call sound.joined holds (ap (λ (o : Option ThreadSlot). option_and_then unmarked_in o) there)
       visit.steps progress e);
 }
   where
     left : (slot worker : ℕ) (call : PendingCall) (progress : Progress) → slice_get kernel.slots slot ≡ Some (Active worker call)
-        → OnwardClaims P (call_at kernel.slots) slot progress
-        → P (call_at (slice_set kernel.slots slot (slot_left progress.call (leaving_of slot progress.call))))
+        → OnwardClaims P (unmarked_at kernel.slots) slot progress
+        → P (unmarked_at (slice_set kernel.slots slot (slot_left progress.call (leaving_of slot progress.call))))
         (tables_left progress.tables slot (slot_left progress.call (leaving_of slot progress.call))).instances
     left slot worker call progress there onward =
-        left_all slot progress.call (λ held. P (call_at (slice_set kernel.slots slot held)) (tables_left progress.tables slot held).instances)
+        left_all slot progress.call (λ held. P (unmarked_at (slice_set kernel.slots slot held)) (tables_left progress.tables slot held).instances)
         within
         (claims_rest boot kernel.tables.next_instance P keeps mid _ progress.tables.instances progress.tables.instances slot _ (from_mid (Suspended progress.call.client (unbuffered progress.call))) within refl
         (λ number uuid waited. inr (slot, ap awaited changes.here ∙ waited)))
@@ -372,15 +372,15 @@ claim_cases boot P kernel cpu keeps sound holds = record {
         (λ number uuid waited. no_claim (number, Some uuid) waited))
       where
         mid : Calls
-        mid = call_at (slice_set kernel.slots slot (Suspended progress.call.client progress.call))
+        mid = unmarked_at (slice_set kernel.slots slot (Suspended progress.call.client progress.call))
 
-        changes : Changes (call_at kernel.slots) mid slot (Some (unmarked progress.call))
+        changes : Changes (unmarked_at kernel.slots) mid slot (Some (unmarked progress.call))
         changes = leaves_slot kernel.slots slot (Active worker call) (Suspended progress.call.client progress.call) there
 
         within : P mid progress.tables.instances
         within = onward mid changes
 
-        from_mid : (held : ThreadSlot) → Changes mid (call_at (slice_set kernel.slots slot held)) slot (call_in held)
+        from_mid : (held : ThreadSlot) → Changes mid (unmarked_at (slice_set kernel.slots slot held)) slot (unmarked_in held)
         from_mid held =
             let now = leaves_slot kernel.slots slot (Active worker call) held there in
             record { here = now.here; others = λ other apart. now.others other apart ∙ sym (changes.others other apart) }

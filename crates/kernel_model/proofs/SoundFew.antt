@@ -15,7 +15,7 @@ use Rattle.ta_isa.specs.declared.boot.App.{App}
 use Rattle.kernel_model.specs.Application.{Application, Booted, BuiltIn, IsBooted, Native, OfImage, uuid_of}
 use Rattle.kernel_model.specs.Instances.{app_of, is_single, keeps_alive}
 use Rattle.kernel_model.specs.Kernel.{CallPhase, Runs, Asks, Waits, Ends, Instance, PendingCall, Tables}
-use Rattle.kernel_model.specs.Sound.{Always, Calls, call_at}
+use Rattle.kernel_model.specs.Sound.{Always, Calls, unmarked_at}
 use Rattle.kernel_model.specs.SoundCalls.{AreJoined, is_in_session, is_over, is_told, job_in}
 use Rattle.kernel_model.specs.SoundInstances.{AreFew}
 use Rattle.kernel_model.specs.SoundNumbers.{is_on_instance}
@@ -299,7 +299,7 @@ module _ (boot : Booted) (calls : Calls) (tables : Tables) (joined : AreJoined c
 
 pub kernels_few : Always (λ boot kernel. AreFew kernel.tables)
 kernels_few boot history kernel booted e =
-    few boot (call_at kernel.slots) kernel.tables (all_joined boot history kernel e) (all_reasoned boot history kernel e) booted (in_order boot history kernel e)
+    few boot (unmarked_at kernel.slots) kernel.tables (all_joined boot history kernel e) (all_reasoned boot history kernel e) booted (in_order boot history kernel e)
     (all_single boot history kernel e)
 
 sum_few : (instances sessions : ℕ) → instances ≤ sessions + 16 → sessions ≤ 64 → instances ≤ 80

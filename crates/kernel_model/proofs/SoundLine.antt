@@ -5,12 +5,12 @@ use Rattle.session_table.specs.declared.waiters.Waiter.{Waiter}
 use Rattle.session_table.specs.Waiters.{IsLine}
 use Rattle.kernel_model.specs.Application.{Booted, IsBooted}
 use Rattle.kernel_model.specs.Kernel.{ThreadSlot}
-use Rattle.kernel_model.specs.Sound.{Always, call_at}
+use Rattle.kernel_model.specs.Sound.{Always, unmarked_at}
 use Rattle.kernel_model.specs.SoundWaiters.{Awaited, IsWaiter, awaited}
 use Rattle.kernel_model.proofs.SoundSteps.{as_many}
 use Rattle.kernel_model.proofs.SoundWaiters.{waiting}
 
-there_below : (slots : List ThreadSlot) (slot : ℕ) (wanted : Awaited) → awaited (call_at slots slot) ≡ Some wanted → slot < length slots
+there_below : (slots : List ThreadSlot) (slot : ℕ) (wanted : Awaited) → awaited (unmarked_at slots slot) ≡ Some wanted → slot < length slots
 there_below [] slot wanted e = absurd cc
 there_below (first ∷ slots) zero wanted e = omega arith
 there_below (first ∷ slots) (suc slot) wanted e = let rest = there_below slots slot wanted e in omega arith
@@ -27,7 +27,7 @@ kernels_in_line boot history kernel booted e =
     let many = as_many boot history kernel booted e in
     record {
       apart = line.apart;
-      in_range = All-weaker (IsWaiter (call_at kernel.slots)) (λ (waiter : Waiter). waiter.slot < 16) (λ waiter is.
+      in_range = All-weaker (IsWaiter (unmarked_at kernel.slots)) (λ (waiter : Waiter). waiter.slot < 16) (λ waiter is.
           below_few waiter.slot (length kernel.slots) boot.threads (there_below kernel.slots waiter.slot (waiter.instance, Some waiter.uuid) is)
           many.slots (few_threads boot booted)) kernel.tables.waiters line.each;
     }

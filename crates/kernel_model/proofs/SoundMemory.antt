@@ -32,7 +32,7 @@ use Rattle.kernel_model.specs.Located.{cookie_of}
 use Rattle.kernel_model.specs.NewCall.{NewCall, beginner, has_pages, new_call_of, no_copies, opener, shared_by, shares_one}
 use Rattle.kernel_model.specs.Resume.{Resumed, app_of_call, onward_of, phase_after, phase_seen, resumed_call, sees, who_resumes}
 use Rattle.kernel_model.specs.Sessions.{sessions_after, sessions_after_panic}
-use Rattle.kernel_model.specs.Sound.{Always, Calls, call_at, call_in, unmarked}
+use Rattle.kernel_model.specs.Sound.{Always, Calls, unmarked_at, unmarked_in, unmarked}
 use Rattle.kernel_model.specs.SoundCalls.{AreJoined, Holds, is_in_session, job_in}
 use Rattle.kernel_model.specs.SoundMemory.{AreInMemory, IsInMemory, KeepsMemory, memory_in, memory_of, pages_used}
 use Rattle.kernel_model.specs.SoundNumbers.{is_on_instance}
@@ -573,37 +573,37 @@ module _ (boot : Booted) (before : Calls) (tables : Tables) (slot : ℕ) (call :
 -- ---- events
 
 abbrev AfterMemory : Booted → Kernel → Type 0
-AfterMemory boot next = AreInMemory boot (call_at next.slots) next.tables
+AfterMemory boot next = AreInMemory boot (unmarked_at next.slots) next.tables
 
-memory_cases : (boot : Booted) (kernel : Kernel) (cpu : ℕ) → Before (call_at kernel.slots) kernel.tables → AfterMemory boot kernel → EventCases boot kernel cpu (AfterMemory boot)
+memory_cases : (boot : Booted) (kernel : Kernel) (cpu : ℕ) → Before (unmarked_at kernel.slots) kernel.tables → AfterMemory boot kernel → EventCases boot kernel cpu (AfterMemory boot)
 memory_cases boot kernel cpu sound memory = record {
   answered = λ visit answer inside. memory;
   comes = λ visit slot found bytes inside free lies fits.
       let c = new_call_of boot kernel.tables visit.regs slot found bytes in
       let there = free_there kernel.slots slot free in
-      cases_onward c (NewMemory (call_at kernel.slots) c) (λ taken. AfterMemory boot (after_decision kernel visit (Takes slot taken)))
+      cases_onward c (NewMemory (unmarked_at kernel.slots) c) (λ taken. AfterMemory boot (after_decision kernel visit (Takes slot taken)))
       (λ taken new. new _ (takes_slot kernel.slots taken.cancels slot visit.cpu Free taken.call there))
-      (new_memory (call_at kernel.slots) c (before_pinned (cookie_of found) kernel.tables slot (call_at kernel.slots) sound)
-      (ap (λ (o : Option ThreadSlot). option_and_then call_in o) there) (memory_pinned (cookie_of found) kernel.tables slot boot (call_at kernel.slots) memory));
+      (new_memory (unmarked_at kernel.slots) c (before_pinned (cookie_of found) kernel.tables slot (unmarked_at kernel.slots) sound)
+      (ap (λ (o : Option ThreadSlot). option_and_then unmarked_in o) there) (memory_pinned (cookie_of found) kernel.tables slot boot (unmarked_at kernel.slots) memory));
   resumes = λ visit call given inside there offered.
       let slot = thread_in visit.regs in
       let taken = resumed_taken boot kernel visit call given in
-      resumed_memory (call_at kernel.slots) (resumed_call boot kernel.tables slot call given) sound.joined sound.rising memory (unmarked call)
-      (ap (λ (o : Option ThreadSlot). option_and_then call_in o) there) (resumed_on given call) (resumed_same given call) _
+      resumed_memory (unmarked_at kernel.slots) (resumed_call boot kernel.tables slot call given) sound.joined sound.rising memory (unmarked call)
+      (ap (λ (o : Option ThreadSlot). option_and_then unmarked_in o) there) (resumed_on given call) (resumed_same given call) _
       (takes_slot kernel.slots taken.cancels slot visit.cpu (Suspended (client_in visit.regs) call) taken.call there);
   told = λ visit answer its fixed. memory;
   goes = λ visit slot worker call progress its inside there e.
       left slot worker call progress there
-      (exit_memory boot (call_at kernel.slots) kernel.tables slot call sound.joined sound.rising memory (ap (λ (o : Option ThreadSlot). option_and_then call_in o) there)
+      (exit_memory boot (unmarked_at kernel.slots) kernel.tables slot call sound.joined sound.rising memory (ap (λ (o : Option ThreadSlot). option_and_then unmarked_in o) there)
       visit.steps progress e);
 }
   where
     left : (slot worker : ℕ) (call : PendingCall) (progress : Progress) → slice_get kernel.slots slot ≡ Some (Active worker call)
-        → OnwardMemory boot (call_at kernel.slots) slot progress
-        → AreInMemory boot (call_at (slice_set kernel.slots slot (slot_left progress.call (leaving_of slot progress.call))))
+        → OnwardMemory boot (unmarked_at kernel.slots) slot progress
+        → AreInMemory boot (unmarked_at (slice_set kernel.slots slot (slot_left progress.call (leaving_of slot progress.call))))
         (tables_left progress.tables slot (slot_left progress.call (leaving_of slot progress.call)))
     left slot worker call progress there onward =
-        left_all slot progress.call (λ held. AreInMemory boot (call_at (slice_set kernel.slots slot held)) (tables_left progress.tables slot held))
+        left_all slot progress.call (λ held. AreInMemory boot (unmarked_at (slice_set kernel.slots slot held)) (tables_left progress.tables slot held))
         within
         (memory_goes boot mid _ progress.tables progress.tables slot _ (from_mid (Suspended progress.call.client (unbuffered progress.call))) within
         (unmarked progress.call) (unmarked (unbuffered progress.call)) changes.here refl refl (phases_same progress.call.phase progress.call.phase refl) refl)
@@ -611,15 +611,15 @@ memory_cases boot kernel cpu sound memory = record {
         (λ other job instance none works kept. never_none None other refl none))
       where
         mid : Calls
-        mid = call_at (slice_set kernel.slots slot (Suspended progress.call.client progress.call))
+        mid = unmarked_at (slice_set kernel.slots slot (Suspended progress.call.client progress.call))
 
-        changes : Changes (call_at kernel.slots) mid slot (Some (unmarked progress.call))
+        changes : Changes (unmarked_at kernel.slots) mid slot (Some (unmarked progress.call))
         changes = leaves_slot kernel.slots slot (Active worker call) (Suspended progress.call.client progress.call) there
 
         within : AreInMemory boot mid progress.tables
         within = onward mid changes
 
-        from_mid : (held : ThreadSlot) → Changes mid (call_at (slice_set kernel.slots slot held)) slot (call_in held)
+        from_mid : (held : ThreadSlot) → Changes mid (unmarked_at (slice_set kernel.slots slot held)) slot (unmarked_in held)
         from_mid held =
             let now = leaves_slot kernel.slots slot (Active worker call) held there in
             record { here = now.here; others = λ other apart. now.others other apart ∙ sym (changes.others other apart) }
@@ -641,7 +641,7 @@ all_in_memory boot history kernel e =
       rising = (in_order boot before k there).instances;
     }) memory) history kernel e
 
-pub kernels_in_memory : Always (λ boot kernel. AreInMemory boot (call_at kernel.slots) kernel.tables)
+pub kernels_in_memory : Always (λ boot kernel. AreInMemory boot (unmarked_at kernel.slots) kernel.tables)
 kernels_in_memory boot history kernel booted e = all_in_memory boot history kernel e
 
 sum_up : (frames used : ℕ) → used ≤ frames → frames - used + used ≡ frames

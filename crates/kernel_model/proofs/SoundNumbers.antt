@@ -27,7 +27,7 @@ use Rattle.kernel_model.specs.Located.{cookie_of, with_argument_pinned}
 use Rattle.kernel_model.specs.NewCall.{NewCall, has_session_room, named_session, new_call_of}
 use Rattle.kernel_model.specs.Resume.{Resumed, onward_of, resumed_call, sees}
 use Rattle.kernel_model.specs.Sessions.{sessions_after, sessions_after_panic}
-use Rattle.kernel_model.specs.Sound.{Always, Calls, call_at, call_in, unmarked}
+use Rattle.kernel_model.specs.Sound.{Always, Calls, unmarked_at, unmarked_in, unmarked}
 use Rattle.kernel_model.specs.SoundNumbers.{AreGivenTo, AreNoLower, AreNumbered, IsGiven, IsNumberedSession, NumbersRise, is_on_instance}
 use Rattle.kernel_model.proofs.Parts.{if-both, option_map_some}
 use Rattle.kernel_model.specs.Turns.{cpu_of}
@@ -561,7 +561,7 @@ module _ (tables : Tables) (call : PendingCall) (granted : ℕ) (numbers : AreIn
 
 -- the kernel after it
 record AfterNumbers (before : Tables) (next : Kernel) : Type 0 where
-  numbers : AreNumbered (call_at next.slots) next.tables
+  numbers : AreNumbered (unmarked_at next.slots) next.tables
   rise : AreNoLower before next.tables
 
 rises : (before now : Tables) → Onward before now → AreNoLower before now
@@ -574,7 +574,7 @@ unmarked_given : (tables : Tables) (call other : PendingCall) → Some (unmarked
 unmarked_given tables call other e given =
     subst (AreGivenTo tables) (some_is (unmarked call) other e) (given_as tables call (unmarked call) refl refl refl given)
 
-number_cases : (boot : Booted) (kernel : Kernel) (cpu : ℕ) → AreNumbered (call_at kernel.slots) kernel.tables
+number_cases : (boot : Booted) (kernel : Kernel) (cpu : ℕ) → AreNumbered (unmarked_at kernel.slots) kernel.tables
     → EventCases boot kernel cpu (AfterNumbers kernel.tables)
 number_cases boot kernel cpu sound = record {
   answered = λ visit answer inside. record { numbers = sound; rise = rises kernel.tables kernel.tables (stay kernel.tables whole) };
@@ -587,25 +587,25 @@ number_cases boot kernel cpu sound = record {
   resumes = λ visit call given inside there offered.
       let slot = thread_in visit.regs in
       let r = resumed_call boot kernel.tables slot call given in
-      let before = sound.given slot (unmarked call) (ap (λ (o : Option ThreadSlot). option_and_then call_in o) there) in
+      let before = sound.given slot (unmarked call) (ap (λ (o : Option ThreadSlot). option_and_then unmarked_in o) there) in
       let after = resumed_numbers r whole (given_seen kernel.tables given call before) in
       taken_after visit slot (resumed_taken boot kernel visit call given) (Suspended (client_in visit.regs) call) there after.on after.call;
   told = λ visit answer its fixed. record { numbers = sound; rise = rises kernel.tables kernel.tables (stay kernel.tables whole) };
   goes = λ visit slot worker call progress its inside there e.
-      let before = sound.given slot (unmarked call) (ap (λ (o : Option ThreadSlot). option_and_then call_in o) there) in
+      let before = sound.given slot (unmarked call) (ap (λ (o : Option ThreadSlot). option_and_then unmarked_in o) there) in
       let after = exit_numbers kernel.tables call visit.steps whole (given_as kernel.tables (unmarked call) call refl refl refl before) progress e in
       let left = left_after slot worker call progress there after in
       record { numbers = left.numbers; rise = left.rise };
 }
   where
     whole : AreIn kernel.tables
-    whole = in_tables (call_at kernel.slots) kernel.tables sound
+    whole = in_tables (unmarked_at kernel.slots) kernel.tables sound
 
     taken_after : (visit : Visit) (slot : ℕ) (taken : Taken) (held : ThreadSlot) → slice_get kernel.slots slot ≡ Some held
         → Onward kernel.tables taken.tables → AreGivenTo taken.tables taken.call
         → AfterNumbers kernel.tables (after_decision kernel visit (Takes slot taken))
     taken_after visit slot taken held there on given = record {
-      numbers = numbers_change (call_at kernel.slots) _ kernel.tables taken.tables slot (Some (unmarked taken.call))
+      numbers = numbers_change (unmarked_at kernel.slots) _ kernel.tables taken.tables slot (Some (unmarked taken.call))
           (takes_slot kernel.slots taken.cancels slot visit.cpu held taken.call there) sound on
           (λ call is. unmarked_given taken.tables taken.call call is given);
       rise = rises kernel.tables taken.tables on;
@@ -621,13 +621,13 @@ number_cases boot kernel cpu sound = record {
         left_all slot progress.call
         (λ held. AfterNumbers kernel.tables (record kernel { slots = slice_set kernel.slots slot held; tables = tables_left progress.tables slot held }))
         (record {
-          numbers = numbers_change (call_at kernel.slots) _ kernel.tables progress.tables slot (Some (unmarked progress.call))
+          numbers = numbers_change (unmarked_at kernel.slots) _ kernel.tables progress.tables slot (Some (unmarked progress.call))
               (leaves_slot kernel.slots slot (Active worker call) (Suspended progress.call.client progress.call) there) sound after.on
               (λ other is. unmarked_given progress.tables progress.call other is after.call);
           rise = rises kernel.tables progress.tables after.on;
         })
         (record {
-          numbers = numbers_change (call_at kernel.slots) _ kernel.tables progress.tables slot (Some (unmarked (unbuffered progress.call)))
+          numbers = numbers_change (unmarked_at kernel.slots) _ kernel.tables progress.tables slot (Some (unmarked (unbuffered progress.call)))
               (leaves_slot kernel.slots slot (Active worker call) (Suspended progress.call.client (unbuffered progress.call)) there) sound after.on
               (λ other is. unmarked_given progress.tables (unbuffered progress.call) other is
               (given_as progress.tables progress.call (unbuffered progress.call) refl refl refl after.call));
@@ -636,12 +636,12 @@ number_cases boot kernel cpu sound = record {
         (λ result params told is.
         let on : Onward kernel.tables (tables_left progress.tables slot Free) = registered_too kernel.tables progress.tables _ after.on in
         record {
-          numbers = numbers_change (call_at kernel.slots) _ kernel.tables _ slot None
+          numbers = numbers_change (unmarked_at kernel.slots) _ kernel.tables _ slot None
               (leaves_slot kernel.slots slot (Active worker call) Free there) sound on (λ other no. absurd cc);
           rise = rises kernel.tables _ on;
         })
 
-first_numbers : (boot : Booted) → AreNumbered (call_at (first_kernel boot).slots) (first_kernel boot).tables
+first_numbers : (boot : Booted) → AreNumbered (unmarked_at (first_kernel boot).slots) (first_kernel boot).tables
 first_numbers boot = record {
   from_one = omega arith;
   few = omega arith;
@@ -653,9 +653,9 @@ first_numbers boot = record {
 }
 
 pub numbered : (boot : Booted) (history : List Event) (kernel : Kernel) → kernel_after boot history ≡ Some kernel
-    → AreNumbered (call_at kernel.slots) kernel.tables
+    → AreNumbered (unmarked_at kernel.slots) kernel.tables
 numbered boot history kernel e =
-    holds_after boot (λ events k. AreNumbered (call_at k.slots) k.tables) (record {
+    holds_after boot (λ events k. AreNumbered (unmarked_at k.slots) k.tables) (record {
       first = first_numbers boot;
       onward = λ events k cpu sound. event_onward k _ _ (λ next after. after.numbers) (number_cases boot k cpu sound);
     }) history kernel e
@@ -663,7 +663,7 @@ numbered boot history kernel e =
     event_onward : (k : Kernel) {cpu : ℕ} (P Q : Kernel → Type 0) → ((next : Kernel) → P next → Q next) → EventCases boot k cpu P → EventCases boot k cpu Q
     event_onward k P Q onward cases = events_onward boot k _ P Q onward cases
 
-pub kernels_numbered : Always (λ boot kernel. AreNumbered (call_at kernel.slots) kernel.tables)
+pub kernels_numbered : Always (λ boot kernel. AreNumbered (unmarked_at kernel.slots) kernel.tables)
 kernels_numbered boot history kernel booted e = numbered boot history kernel e
 
 pub numbers_rise : NumbersRise

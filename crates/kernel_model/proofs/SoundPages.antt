@@ -8,7 +8,7 @@ use Rattle.job_model.specs.Job.{Machine, Native, Nothing}
 use Rattle.kernel_model.specs.Application.{Application, Booted, BuiltIn, OfImage, pages_in, program_of}
 use Rattle.kernel_model.specs.Instances.{app_of, fresh_memory, program_on}
 use Rattle.kernel_model.specs.Kernel.{Instance, PendingCall}
-use Rattle.kernel_model.specs.Sound.{Always, call_at}
+use Rattle.kernel_model.specs.Sound.{Always, unmarked_at}
 use Rattle.kernel_model.specs.SoundMemory.{IsInMemory, memory_of}
 use Rattle.kernel_model.specs.SoundPages.{HasItsPages, HaveTheirPages}
 use Rattle.kernel_model.proofs.SoundBodies.{HoldsAt, StaysSo, all_bodies, works_so}
@@ -40,7 +40,7 @@ kept_pages boot instance e = by (app_of boot instance.uuid) instance.dead e
     by None false is = tt
     by (Some app) false is = app_pages app instance.memory is
 
-pub machines_paged : Always (λ boot kernel. HaveTheirPages (call_at kernel.slots))
+pub machines_paged : Always (λ boot kernel. HaveTheirPages (unmarked_at kernel.slots))
 machines_paged boot history kernel booted e slot call job there works =
     works_so HasItsPages call.phase job (subst (λ (o : Option PendingCall). HoldsAt HasItsPages o) there
     (all_bodies HasItsPages pages_stay boot (λ before k came. record {

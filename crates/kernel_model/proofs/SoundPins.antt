@@ -15,7 +15,7 @@ use Rattle.kernel_model.specs.Kernel.{Active, Free, Kernel, PendingCall, Suspend
 use Rattle.kernel_model.specs.Located.{cookie_of, pins_with}
 use Rattle.kernel_model.specs.NewCall.{NewCall, new_call_of}
 use Rattle.kernel_model.specs.Resume.{resumed_call}
-use Rattle.kernel_model.specs.Sound.{Always, Calls, call_at, unmarked}
+use Rattle.kernel_model.specs.Sound.{Always, Calls, unmarked_at, unmarked}
 use Rattle.kernel_model.specs.SoundPins.{ArePinned}
 use Rattle.kernel_model.proofs.Parts.{if-both}
 use Rattle.kernel_model.proofs.SoundEvents.{EventCases, holds_after, resumed_taken}
@@ -105,40 +105,40 @@ module _ (before : Calls) (c : NewCall) (named : Option ℕ) (pins : List Pin) (
 -- ---- events
 
 abbrev AfterPins : Kernel → Type 0
-AfterPins next = PinsOf (call_at next.slots) next.tables.registered.pins
+AfterPins next = PinsOf (unmarked_at next.slots) next.tables.registered.pins
 
 pin_cases : (boot : Booted) (kernel : Kernel) (cpu : ℕ) → AfterPins kernel → EventCases boot kernel cpu AfterPins
 pin_cases boot kernel cpu all = record {
   answered = λ visit answer inside. all;
   comes = λ visit slot found bytes inside free lies fits.
       let c = new_call_of boot kernel.tables visit.regs slot found bytes in
-      cases_onward c (NewPins (call_at kernel.slots) c) (λ taken. AfterPins (after_decision kernel visit (Takes slot taken)))
+      cases_onward c (NewPins (unmarked_at kernel.slots) c) (λ taken. AfterPins (after_decision kernel visit (Takes slot taken)))
       (λ taken new. new _ (takes_slot kernel.slots taken.cancels slot visit.cpu Free taken.call (free_there kernel.slots slot free)))
-      (new_pins (call_at kernel.slots) c (cookie_of found) kernel.tables.registered.pins refl all);
+      (new_pins (unmarked_at kernel.slots) c (cookie_of found) kernel.tables.registered.pins refl all);
   resumes = λ visit call given inside there offered.
       let slot = thread_in visit.regs in
       let r = resumed_call boot kernel.tables slot call given in
       let taken = resumed_taken boot kernel visit call given in
-      let stays : PinsOf (call_at kernel.slots) taken.tables.registered.pins =
-      subst (λ (known : Registered). PinsOf (call_at kernel.slots) known.pins) (sym (resumed_registered r)) all in
-      pins_later (call_at kernel.slots) _ slot (unmarked taken.call) taken.tables.registered.pins
+      let stays : PinsOf (unmarked_at kernel.slots) taken.tables.registered.pins =
+      subst (λ (known : Registered). PinsOf (unmarked_at kernel.slots) known.pins) (sym (resumed_registered r)) all in
+      pins_later (unmarked_at kernel.slots) _ slot (unmarked taken.call) taken.tables.registered.pins
       (takes_slot kernel.slots taken.cancels slot visit.cpu (Suspended (client_in visit.regs) call) taken.call there) stays;
   told = λ visit answer its fixed. all;
   goes = λ visit slot worker call progress its inside there e.
-      let stays : PinsOf (call_at kernel.slots) progress.tables.registered.pins =
-      subst (λ (known : Registered). PinsOf (call_at kernel.slots) known.pins) (sym (exit_registered kernel.tables call visit.steps progress e)) all in
-      left_all slot progress.call (λ held. PinsOf (call_at (slice_set kernel.slots slot held)) (tables_left progress.tables slot held).registered.pins)
-      (pins_later (call_at kernel.slots) _ slot (unmarked progress.call) progress.tables.registered.pins
+      let stays : PinsOf (unmarked_at kernel.slots) progress.tables.registered.pins =
+      subst (λ (known : Registered). PinsOf (unmarked_at kernel.slots) known.pins) (sym (exit_registered kernel.tables call visit.steps progress e)) all in
+      left_all slot progress.call (λ held. PinsOf (unmarked_at (slice_set kernel.slots slot held)) (tables_left progress.tables slot held).registered.pins)
+      (pins_later (unmarked_at kernel.slots) _ slot (unmarked progress.call) progress.tables.registered.pins
       (leaves_slot kernel.slots slot (Active worker call) (Suspended progress.call.client progress.call) there) stays)
-      (pins_later (call_at kernel.slots) _ slot (unmarked (unbuffered progress.call)) progress.tables.registered.pins
+      (pins_later (unmarked_at kernel.slots) _ slot (unmarked (unbuffered progress.call)) progress.tables.registered.pins
       (leaves_slot kernel.slots slot (Active worker call) (Suspended progress.call.client (unbuffered progress.call)) there) stays)
-      (λ result params told is. pins_without (call_at kernel.slots) _ slot progress.tables.registered.pins
+      (λ result params told is. pins_without (unmarked_at kernel.slots) _ slot progress.tables.registered.pins
       (leaves_slot kernel.slots slot (Active worker call) Free there) stays);
 }
 
-pub kernels_pinned : Always (λ boot kernel. ArePinned (call_at kernel.slots) kernel.tables)
+pub kernels_pinned : Always (λ boot kernel. ArePinned (unmarked_at kernel.slots) kernel.tables)
 kernels_pinned boot history kernel booted e =
     holds_after boot (λ events k. AfterPins k) (record {
-      first = All-nil (HasCall (call_at (first_kernel boot).slots));
+      first = All-nil (HasCall (unmarked_at (first_kernel boot).slots));
       onward = λ events k cpu all. pin_cases boot k cpu all;
     }) history kernel e

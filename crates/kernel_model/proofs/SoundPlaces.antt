@@ -22,7 +22,7 @@ use Rattle.kernel_model.specs.History.{kernel_after}
 use Rattle.kernel_model.specs.Kernel.{Active, Free, Kernel, PendingCall, Progress, Suspended, Tables, ThreadSlot, without_visitor}
 use Rattle.kernel_model.specs.NewCall.{NewCall, new_call_of}
 use Rattle.kernel_model.specs.Resume.{Resumed, onward_of, phase_seen, resumed_call, sees}
-use Rattle.kernel_model.specs.Sound.{Always, Calls, call_at, call_in, unmarked}
+use Rattle.kernel_model.specs.Sound.{Always, Calls, unmarked_at, unmarked_in, unmarked}
 use Rattle.kernel_model.specs.SoundPlaces.{HasItsPlaces, HaveTheirPlaces}
 use Rattle.kernel_model.proofs.Copied.{HasGoodPages, HaveGoodPages, area_inside, argument_inside}
 use Rattle.kernel_model.proofs.Parts.{if-both}
@@ -185,7 +185,7 @@ unbuffered_places call placed = fresh (unbuffered call) refl placed.argument pla
 -- ---- events
 
 record ArePlacedIn (kernel : Kernel) : Type 0 where
-  calls : AllPlaced (call_at kernel.slots)
+  calls : AllPlaced (unmarked_at kernel.slots)
   pages : HaveGoodPages kernel.tables.registered.buffers
 
 placed_change : (before after : Calls) (slot : ℕ) (held : Option PendingCall) → Changes before after slot held → AllPlaced before → PlacedAt held
@@ -197,7 +197,7 @@ placed_change before after slot held changes all placed at =
 
 -- the call that a slot holds
 held_places : (kernel : Kernel) (slot : ℕ) (held : ThreadSlot) (call : PendingCall) → ArePlacedIn kernel
-    → option_and_then call_in (Some held) ≡ Some (unmarked call) → option_and_then call_in (slice_get kernel.slots slot) ≡ option_and_then call_in (Some held)
+    → option_and_then unmarked_in (Some held) ≡ Some (unmarked call) → option_and_then unmarked_in (slice_get kernel.slots slot) ≡ option_and_then unmarked_in (Some held)
     → HasItsPlaces call
 held_places kernel slot held call all is there = again (unmarked call) call refl refl refl refl (subst PlacedAt (there ∙ is) (all.calls slot))
 
@@ -208,7 +208,7 @@ place_cases boot kernel cpu all = record {
       let c = new_call_of boot kernel.tables visit.regs slot found bytes in
       cases_onward c NewPlaces (λ taken. ArePlacedIn (after_decision kernel visit (Takes slot taken)))
       (λ taken new. record {
-        calls = placed_change (call_at kernel.slots) _ slot (Some (unmarked taken.call))
+        calls = placed_change (unmarked_at kernel.slots) _ slot (Some (unmarked taken.call))
             (takes_slot kernel.slots taken.cancels slot visit.cpu Free taken.call (free_there kernel.slots slot free)) all.calls
             (again taken.call (unmarked taken.call) refl refl refl refl new.0);
         pages = new.1;
@@ -218,36 +218,36 @@ place_cases boot kernel cpu all = record {
       let slot = thread_in visit.regs in
       let r = resumed_call boot kernel.tables slot call given in
       let taken = resumed_taken boot kernel visit call given in
-      let before = held_places kernel slot (Suspended (client_in visit.regs) call) call all refl (ap (λ (o : Option ThreadSlot). option_and_then call_in o) there) in
+      let before = held_places kernel slot (Suspended (client_in visit.regs) call) call all refl (ap (λ (o : Option ThreadSlot). option_and_then unmarked_in o) there) in
       let now = resumed_places r (given_places given (sees call) offered (sees_places call before)) in
       record {
-        calls = placed_change (call_at kernel.slots) _ slot (Some (unmarked taken.call))
+        calls = placed_change (unmarked_at kernel.slots) _ slot (Some (unmarked taken.call))
             (takes_slot kernel.slots taken.cancels slot visit.cpu (Suspended (client_in visit.regs) call) taken.call there) all.calls
             (again taken.call (unmarked taken.call) refl refl refl refl now);
         pages = subst (λ (known : Registered). HaveGoodPages known.buffers) (sym (resumed_registered r)) all.pages;
       };
   told = λ visit answer its fixed. record { calls = all.calls; pages = all.pages };
   goes = λ visit slot worker call progress its inside there e.
-      let before = held_places kernel slot (Active worker call) call all refl (ap (λ (o : Option ThreadSlot). option_and_then call_in o) there) in
+      let before = held_places kernel slot (Active worker call) call all refl (ap (λ (o : Option ThreadSlot). option_and_then unmarked_in o) there) in
       let now = exit_places kernel.tables call visit.steps progress before e in
       let same : HaveGoodPages progress.tables.registered.buffers =
       subst (λ (known : Registered). HaveGoodPages known.buffers) (sym (exit_registered kernel.tables call visit.steps progress e)) all.pages in
       left_all slot progress.call
       (λ held. ArePlacedIn (without_visitor (record kernel { slots = slice_set kernel.slots slot held; tables = tables_left progress.tables slot held }) visit))
       (record {
-        calls = placed_change (call_at kernel.slots) _ slot _
+        calls = placed_change (unmarked_at kernel.slots) _ slot _
             (leaves_slot kernel.slots slot (Active worker call) (Suspended progress.call.client progress.call) there) all.calls
             (again progress.call (unmarked progress.call) refl refl refl refl now);
         pages = same;
       })
       (record {
-        calls = placed_change (call_at kernel.slots) _ slot _
+        calls = placed_change (unmarked_at kernel.slots) _ slot _
             (leaves_slot kernel.slots slot (Active worker call) (Suspended progress.call.client (unbuffered progress.call)) there) all.calls
             (again (unbuffered progress.call) (unmarked (unbuffered progress.call)) refl refl refl refl (unbuffered_places progress.call now));
         pages = same;
       })
       (λ result params told is. record {
-        calls = placed_change (call_at kernel.slots) _ slot _ (leaves_slot kernel.slots slot (Active worker call) Free there) all.calls tt;
+        calls = placed_change (unmarked_at kernel.slots) _ slot _ (leaves_slot kernel.slots slot (Active worker call) Free there) all.calls tt;
         pages = same;
       });
 }
@@ -262,5 +262,5 @@ placed_after boot history kernel e =
       onward = λ events k cpu all. place_cases boot k cpu all;
     }) history kernel e
 
-pub calls_placed : Always (λ boot kernel. HaveTheirPlaces (call_at kernel.slots))
+pub calls_placed : Always (λ boot kernel. HaveTheirPlaces (unmarked_at kernel.slots))
 calls_placed boot history kernel booted e slot call is = subst PlacedAt is ((placed_after boot history kernel e).calls slot)

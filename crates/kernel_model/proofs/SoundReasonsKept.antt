@@ -31,7 +31,7 @@ use Rattle.kernel_model.specs.Located.{cookie_of}
 use Rattle.kernel_model.specs.NewCall.{NewCall, beginner, new_call_of, no_copies, opener}
 use Rattle.kernel_model.specs.Resume.{Resumed, app_of_call, onward_of, phase_after, resumed_call, sees, who_resumes}
 use Rattle.kernel_model.specs.Sessions.{has_opened, sessions_after, sessions_after_panic, sessions_unrun}
-use Rattle.kernel_model.specs.Sound.{Calls, call_at, call_in, unmarked}
+use Rattle.kernel_model.specs.Sound.{Calls, unmarked_at, unmarked_in, unmarked}
 use Rattle.kernel_model.specs.SoundCalls.{AreJoined, Holds, is_in_session, is_over, is_told, job_in}
 use Rattle.kernel_model.specs.SoundMemory.{AreInMemory, IsInMemory}
 use Rattle.kernel_model.specs.SoundNumbers.{IsNumberedSession, is_on_instance}
@@ -499,39 +499,39 @@ module _ (boot : Booted) (before : Calls) (tables : Tables) (slot : ℕ) (call :
 -- ---- events
 
 abbrev AfterReasons : Booted → Kernel → Type 0
-AfterReasons boot next = AreReasoned boot (call_at next.slots) next.tables
+AfterReasons boot next = AreReasoned boot (unmarked_at next.slots) next.tables
 
-reason_cases : (boot : Booted) (kernel : Kernel) (cpu : ℕ) → Before (call_at kernel.slots) kernel.tables → AreInOrder kernel.tables
-    → AreInMemory boot (call_at kernel.slots) kernel.tables → AfterReasons boot kernel → EventCases boot kernel cpu (AfterReasons boot)
+reason_cases : (boot : Booted) (kernel : Kernel) (cpu : ℕ) → Before (unmarked_at kernel.slots) kernel.tables → AreInOrder kernel.tables
+    → AreInMemory boot (unmarked_at kernel.slots) kernel.tables → AfterReasons boot kernel → EventCases boot kernel cpu (AfterReasons boot)
 reason_cases boot kernel cpu sound order memory reasons = record {
   answered = λ visit answer inside. reasons;
   comes = λ visit slot found bytes inside free lies fits.
       let c = new_call_of boot kernel.tables visit.regs slot found bytes in
       let there = free_there kernel.slots slot free in
-      cases_onward c (NewReasons (call_at kernel.slots) c) (λ taken. AfterReasons boot (after_decision kernel visit (Takes slot taken)))
+      cases_onward c (NewReasons (unmarked_at kernel.slots) c) (λ taken. AfterReasons boot (after_decision kernel visit (Takes slot taken)))
       (λ taken new. new _ (takes_slot kernel.slots taken.cancels slot visit.cpu Free taken.call there))
-      (new_reasons (call_at kernel.slots) c (before_pinned (cookie_of found) kernel.tables slot (call_at kernel.slots) sound) (order_pinned (cookie_of found) kernel.tables slot order)
-      (ap (λ (o : Option ThreadSlot). option_and_then call_in o) there) (memory_pinned (cookie_of found) kernel.tables slot boot (call_at kernel.slots) memory)
-      (reasoned_pinned (cookie_of found) kernel.tables slot boot (call_at kernel.slots) reasons));
+      (new_reasons (unmarked_at kernel.slots) c (before_pinned (cookie_of found) kernel.tables slot (unmarked_at kernel.slots) sound) (order_pinned (cookie_of found) kernel.tables slot order)
+      (ap (λ (o : Option ThreadSlot). option_and_then unmarked_in o) there) (memory_pinned (cookie_of found) kernel.tables slot boot (unmarked_at kernel.slots) memory)
+      (reasoned_pinned (cookie_of found) kernel.tables slot boot (unmarked_at kernel.slots) reasons));
   resumes = λ visit call given inside there offered.
       let slot = thread_in visit.regs in
       let taken = resumed_taken boot kernel visit call given in
-      resumed_reasons (call_at kernel.slots) (resumed_call boot kernel.tables slot call given) sound.joined order memory reasons (unmarked call)
-      (ap (λ (o : Option ThreadSlot). option_and_then call_in o) there) (resumed_on given call) (resumed_destiny given call) _
+      resumed_reasons (unmarked_at kernel.slots) (resumed_call boot kernel.tables slot call given) sound.joined order memory reasons (unmarked call)
+      (ap (λ (o : Option ThreadSlot). option_and_then unmarked_in o) there) (resumed_on given call) (resumed_destiny given call) _
       (takes_slot kernel.slots taken.cancels slot visit.cpu (Suspended (client_in visit.regs) call) taken.call there);
   told = λ visit answer its fixed. reasons;
   goes = λ visit slot worker call progress its inside there e.
       left slot worker call progress there
-      (exit_reasons boot (call_at kernel.slots) kernel.tables slot call sound.joined order reasons (ap (λ (o : Option ThreadSlot). option_and_then call_in o) there)
+      (exit_reasons boot (unmarked_at kernel.slots) kernel.tables slot call sound.joined order reasons (ap (λ (o : Option ThreadSlot). option_and_then unmarked_in o) there)
       visit.steps progress e);
 }
   where
     left : (slot worker : ℕ) (call : PendingCall) (progress : Progress) → slice_get kernel.slots slot ≡ Some (Active worker call)
-        → OnwardReasons boot (call_at kernel.slots) slot progress
-        → AreReasoned boot (call_at (slice_set kernel.slots slot (slot_left progress.call (leaving_of slot progress.call))))
+        → OnwardReasons boot (unmarked_at kernel.slots) slot progress
+        → AreReasoned boot (unmarked_at (slice_set kernel.slots slot (slot_left progress.call (leaving_of slot progress.call))))
         (tables_left progress.tables slot (slot_left progress.call (leaving_of slot progress.call)))
     left slot worker call progress there onward =
-        left_all slot progress.call (λ held. AreReasoned boot (call_at (slice_set kernel.slots slot held)) (tables_left progress.tables slot held))
+        left_all slot progress.call (λ held. AreReasoned boot (unmarked_at (slice_set kernel.slots slot held)) (tables_left progress.tables slot held))
         within
         (reasons_go boot mid _ progress.tables progress.tables slot _ (from_mid (Suspended progress.call.client (unbuffered progress.call))) within
         (unmarked progress.call) (unmarked (unbuffered progress.call)) changes.here refl refl refl refl
@@ -540,15 +540,15 @@ reason_cases boot kernel cpu sound order memory reasons = record {
         (λ at found kept opened. kept) (λ other job instance none works kept leaving. never_none None other refl none))
       where
         mid : Calls
-        mid = call_at (slice_set kernel.slots slot (Suspended progress.call.client progress.call))
+        mid = unmarked_at (slice_set kernel.slots slot (Suspended progress.call.client progress.call))
 
-        changes : Changes (call_at kernel.slots) mid slot (Some (unmarked progress.call))
+        changes : Changes (unmarked_at kernel.slots) mid slot (Some (unmarked progress.call))
         changes = leaves_slot kernel.slots slot (Active worker call) (Suspended progress.call.client progress.call) there
 
         within : AreReasoned boot mid progress.tables
         within = onward mid changes
 
-        from_mid : (held : ThreadSlot) → Changes mid (call_at (slice_set kernel.slots slot held)) slot (call_in held)
+        from_mid : (held : ThreadSlot) → Changes mid (unmarked_at (slice_set kernel.slots slot held)) slot (unmarked_in held)
         from_mid held =
             let now = leaves_slot kernel.slots slot (Active worker call) held there in
             record { here = now.here; others = λ other apart. now.others other apart ∙ sym (changes.others other apart) }

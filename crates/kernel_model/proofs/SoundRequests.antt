@@ -21,7 +21,7 @@ use Rattle.kernel_model.specs.History.{kernel_after}
 use Rattle.kernel_model.specs.Kernel.{Active, Asks, CallPhase, Ends, Free, Kernel, PendingCall, Progress, Runs, Suspended, Tables, ThreadSlot, Waits}
 use Rattle.kernel_model.specs.NewCall.{NewCall, new_call_of}
 use Rattle.kernel_model.specs.Resume.{Resumed, onward_of, phase_after, phase_seen, resumed_call, sees}
-use Rattle.kernel_model.specs.Sound.{Always, Calls, call_at, call_in, unmarked}
+use Rattle.kernel_model.specs.Sound.{Always, Calls, unmarked_at, unmarked_in, unmarked}
 use Rattle.kernel_model.specs.SoundRequests.{HaveFittingRequests}
 use Rattle.kernel_model.proofs.Parts.{if-both}
 use Rattle.kernel_model.proofs.SoundEvents.{EventCases, holds_after, resumed_taken}
@@ -125,41 +125,41 @@ exit_fits tables call granted progress fits e = exits_all tables call granted (�
 
 -- ---- events
 
-fit_cases : (boot : Booted) (kernel : Kernel) (cpu : ℕ) → AllFit (call_at kernel.slots) → EventCases boot kernel cpu (λ next. AllFit (call_at next.slots))
+fit_cases : (boot : Booted) (kernel : Kernel) (cpu : ℕ) → AllFit (unmarked_at kernel.slots) → EventCases boot kernel cpu (λ next. AllFit (unmarked_at next.slots))
 fit_cases boot kernel cpu all = record {
   answered = λ visit answer inside. all;
   comes = λ visit slot found bytes inside free lies fits.
       let c = new_call_of boot kernel.tables visit.regs slot found bytes in
-      cases_onward c (λ taken. FitsIn taken.call.phase) (λ taken. AllFit (call_at (after_decision kernel visit (Takes slot taken)).slots))
-      (λ taken new. fit_change (call_at kernel.slots) _ slot (Some (unmarked taken.call))
+      cases_onward c (λ taken. FitsIn taken.call.phase) (λ taken. AllFit (unmarked_at (after_decision kernel visit (Takes slot taken)).slots))
+      (λ taken new. fit_change (unmarked_at kernel.slots) _ slot (Some (unmarked taken.call))
       (takes_slot kernel.slots taken.cancels slot visit.cpu Free taken.call (free_there kernel.slots slot free)) all new) (new_fit c);
   resumes = λ visit call given inside there offered.
       let slot = thread_in visit.regs in
       let taken = resumed_taken boot kernel visit call given in
-      let before : FitsIn call.phase = subst FitsAt (ap (λ (o : Option ThreadSlot). option_and_then call_in o) there) (all slot) in
-      fit_change (call_at kernel.slots) _ slot (Some (unmarked taken.call))
+      let before : FitsIn call.phase = subst FitsAt (ap (λ (o : Option ThreadSlot). option_and_then unmarked_in o) there) (all slot) in
+      fit_change (unmarked_at kernel.slots) _ slot (Some (unmarked taken.call))
       (takes_slot kernel.slots taken.cancels slot visit.cpu (Suspended (client_in visit.regs) call) taken.call there) all
       (resumed_fits (resumed_call boot kernel.tables slot call given) (given_fits given (sees call) (sees_fits call before)));
   told = λ visit answer its fixed. all;
   goes = λ visit slot worker call progress its inside there e.
-      let before : FitsIn call.phase = subst FitsAt (ap (λ (o : Option ThreadSlot). option_and_then call_in o) there) (all slot) in
+      let before : FitsIn call.phase = subst FitsAt (ap (λ (o : Option ThreadSlot). option_and_then unmarked_in o) there) (all slot) in
       let after = exit_fits kernel.tables call visit.steps progress before e in
-      left_all slot progress.call (λ held. AllFit (call_at (slice_set kernel.slots slot held)))
-      (fit_change (call_at kernel.slots) _ slot _
+      left_all slot progress.call (λ held. AllFit (unmarked_at (slice_set kernel.slots slot held)))
+      (fit_change (unmarked_at kernel.slots) _ slot _
       (leaves_slot kernel.slots slot (Active worker call) (Suspended progress.call.client progress.call) there) all after)
-      (fit_change (call_at kernel.slots) _ slot _
+      (fit_change (unmarked_at kernel.slots) _ slot _
       (leaves_slot kernel.slots slot (Active worker call) (Suspended progress.call.client (unbuffered progress.call)) there) all after)
-      (λ result params told is. fit_change (call_at kernel.slots) _ slot _ (leaves_slot kernel.slots slot (Active worker call) Free there) all tt);
+      (λ result params told is. fit_change (unmarked_at kernel.slots) _ slot _ (leaves_slot kernel.slots slot (Active worker call) Free there) all tt);
 }
 
-all_fit : (boot : Booted) (history : List Event) (kernel : Kernel) → kernel_after boot history ≡ Some kernel → AllFit (call_at kernel.slots)
+all_fit : (boot : Booted) (history : List Event) (kernel : Kernel) → kernel_after boot history ≡ Some kernel → AllFit (unmarked_at kernel.slots)
 all_fit boot history kernel e =
-    holds_after boot (λ events k. AllFit (call_at k.slots)) (record {
+    holds_after boot (λ events k. AllFit (unmarked_at k.slots)) (record {
       first = λ slot. subst FitsAt (sym (none_at_first boot.threads slot)) tt;
       onward = λ events k cpu all. fit_cases boot k cpu all;
     }) history kernel e
 
-pub calls_fit : Always (λ boot kernel. HaveFittingRequests (call_at kernel.slots))
+pub calls_fit : Always (λ boot kernel. HaveFittingRequests (unmarked_at kernel.slots))
 calls_fit boot history kernel booted e slot call is =
     let fits : FitsIn call.phase = subst FitsAt is (all_fit boot history kernel e slot) in
     record {

@@ -13,7 +13,7 @@ use Rattle.kernel_model.specs.Exit.{exit_of, goes_out_from, progress_held, progr
 use Rattle.kernel_model.specs.History.{kernel_after}
 use Rattle.kernel_model.specs.Instances.{app_of, fresh_memory, program_on}
 use Rattle.kernel_model.specs.Kernel.{Asks, CallPhase, Ends, Fixed, InSlot, Instance, Kernel, PendingCall, Processor, Runs, Tables, ThreadSlot, Visit, Waits}
-use Rattle.kernel_model.specs.Sound.{Always, call_at, call_in}
+use Rattle.kernel_model.specs.Sound.{Always, unmarked_at, unmarked_in}
 use Rattle.kernel_model.specs.SoundJobs.{ExitsCome, IsRunnable}
 use Rattle.kernel_model.proofs.Parts.{if-both}
 use Rattle.kernel_model.proofs.SoundBodies.{AllHold, HoldsAt, HoldsIn, all_bodies}
@@ -62,7 +62,7 @@ kept_valid boot instance booted =
     found (Some app) e = valid_starts app instance.memory (app_valid boot instance.uuid app booted e)
 
 pub all_run : (boot : Booted) (history : List Event) (kernel : Kernel) → IsBooted boot → kernel_after boot history ≡ Some kernel
-    → AllHold IsRunnable (call_at kernel.slots)
+    → AllHold IsRunnable (unmarked_at kernel.slots)
 all_run boot history kernel booted e =
     all_bodies IsRunnable still_runnable boot (λ before k there. record {
       made = λ uuid app is. valid_starts app (fresh_memory (pages_in app)) (app_valid boot uuid app booted is);
@@ -88,7 +88,7 @@ exits_come boot history kernel booted e cpu count regs (Fixed answer) inside =
 exits_come boot history kernel booted e cpu count regs (InSlot slot) inside =
     let visit : Visit = record { cpu = cpu; regs = regs; steps = count } in
     let mine = (works boot history kernel e).work cpu slot count regs inside in
-    let runs : HoldsIn IsRunnable mine.0.phase = subst (HoldsAt IsRunnable) (ap (λ (o : Option ThreadSlot). option_and_then call_in o) mine.1) (all_run boot history kernel booted e slot) in
+    let runs : HoldsIn IsRunnable mine.0.phase = subst (HoldsAt IsRunnable) (ap (λ (o : Option ThreadSlot). option_and_then unmarked_in o) mine.1) (all_run boot history kernel booted e slot) in
     let progress : IsSome (option_and_then (progress_held kernel.tables count) (slice_get kernel.slots slot)) =
     subst (λ (o : Option ThreadSlot). IsSome (option_and_then (progress_held kernel.tables count) o)) (sym mine.1)
     (progress_some kernel.tables mine.0 count mine.0.phase runs) in

@@ -29,7 +29,7 @@ use Rattle.kernel_model.specs.Located.{cookie_of}
 use Rattle.kernel_model.specs.NewCall.{NewCall, beginner, new_call_of, no_copies, opener}
 use Rattle.kernel_model.specs.Resume.{Resumed, onward_of, resumed_call, who_resumes}
 use Rattle.kernel_model.specs.Sessions.{has_opened, sessions_after, sessions_after_panic, sessions_unrun}
-use Rattle.kernel_model.specs.Sound.{Always, Calls, call_at, call_in, unmarked}
+use Rattle.kernel_model.specs.Sound.{Always, Calls, unmarked_at, unmarked_in, unmarked}
 use Rattle.kernel_model.specs.SoundCalls.{AreJoined, is_in_session, job_in}
 use Rattle.kernel_model.specs.SoundSessions.{HaveTheirInstances}
 use Rattle.kernel_model.proofs.SoundCallsJoined.{all_joined}
@@ -518,38 +518,38 @@ module _ (before : Calls) (tables : Tables) (slot : ℕ) (call : PendingCall) (j
 -- ---- events
 
 abbrev AfterSpared : Kernel → Type 0
-AfterSpared next = AreSpared (call_at next.slots) next.tables
+AfterSpared next = AreSpared (unmarked_at next.slots) next.tables
 
-spared_cases : (boot : Booted) (kernel : Kernel) (cpu : ℕ) → Before (call_at kernel.slots) kernel.tables → AfterSpared kernel
+spared_cases : (boot : Booted) (kernel : Kernel) (cpu : ℕ) → Before (unmarked_at kernel.slots) kernel.tables → AfterSpared kernel
     → EventCases boot kernel cpu AfterSpared
 spared_cases boot kernel cpu sound spared = record {
   answered = λ visit answer inside. spared;
   comes = λ visit slot found bytes inside free lies fits.
       let c = new_call_of boot kernel.tables visit.regs slot found bytes in
       let there = free_there kernel.slots slot free in
-      cases_onward c (NewSpared (call_at kernel.slots) c) (λ taken. AfterSpared (after_decision kernel visit (Takes slot taken)))
+      cases_onward c (NewSpared (unmarked_at kernel.slots) c) (λ taken. AfterSpared (after_decision kernel visit (Takes slot taken)))
       (λ taken new. new _ (takes_slot kernel.slots taken.cancels slot visit.cpu Free taken.call there))
-      (new_spared (call_at kernel.slots) c (before_pinned (cookie_of found) kernel.tables slot (call_at kernel.slots) sound)
-      (ap (λ (o : Option ThreadSlot). option_and_then call_in o) there) (record { kept = spared.kept; jobs = spared.jobs }));
+      (new_spared (unmarked_at kernel.slots) c (before_pinned (cookie_of found) kernel.tables slot (unmarked_at kernel.slots) sound)
+      (ap (λ (o : Option ThreadSlot). option_and_then unmarked_in o) there) (record { kept = spared.kept; jobs = spared.jobs }));
   resumes = λ visit call given inside there offered.
       let slot = thread_in visit.regs in
       let taken = resumed_taken boot kernel visit call given in
-      resumed_spared (call_at kernel.slots) (resumed_call boot kernel.tables slot call given) sound.joined spared (unmarked call)
-      (ap (λ (o : Option ThreadSlot). option_and_then call_in o) there) (resumed_on given call) (resumed_course (Sparing kernel.tables.sessions call) given call) _
+      resumed_spared (unmarked_at kernel.slots) (resumed_call boot kernel.tables slot call given) sound.joined spared (unmarked call)
+      (ap (λ (o : Option ThreadSlot). option_and_then unmarked_in o) there) (resumed_on given call) (resumed_course (Sparing kernel.tables.sessions call) given call) _
       (takes_slot kernel.slots taken.cancels slot visit.cpu (Suspended (client_in visit.regs) call) taken.call there);
   told = λ visit answer its fixed. spared;
   goes = λ visit slot worker call progress its inside there e.
       left slot worker call progress there
-      (exit_spared (call_at kernel.slots) kernel.tables slot call sound.joined spared (ap (λ (o : Option ThreadSlot). option_and_then call_in o) there)
+      (exit_spared (unmarked_at kernel.slots) kernel.tables slot call sound.joined spared (ap (λ (o : Option ThreadSlot). option_and_then unmarked_in o) there)
       visit.steps progress e);
 }
   where
     left : (slot worker : ℕ) (call : PendingCall) (progress : Progress) → slice_get kernel.slots slot ≡ Some (Active worker call)
-        → OnwardSpared (call_at kernel.slots) slot progress
-        → AreSpared (call_at (slice_set kernel.slots slot (slot_left progress.call (leaving_of slot progress.call))))
+        → OnwardSpared (unmarked_at kernel.slots) slot progress
+        → AreSpared (unmarked_at (slice_set kernel.slots slot (slot_left progress.call (leaving_of slot progress.call))))
         (tables_left progress.tables slot (slot_left progress.call (leaving_of slot progress.call)))
     left slot worker call progress there onward =
-        left_all slot progress.call (λ held. AreSpared (call_at (slice_set kernel.slots slot held)) (tables_left progress.tables slot held))
+        left_all slot progress.call (λ held. AreSpared (unmarked_at (slice_set kernel.slots slot held)) (tables_left progress.tables slot held))
         within
         (spared_go mid _ progress.tables progress.tables slot _ (from_mid (Suspended progress.call.client (unbuffered progress.call))) within
         (unmarked progress.call) (unmarked (unbuffered progress.call)) changes.here refl refl refl refl
@@ -558,15 +558,15 @@ spared_cases boot kernel cpu sound spared = record {
         (λ at found kept opened. kept) (λ number kept. kept) (λ other job none works. never_none None other refl none))
       where
         mid : Calls
-        mid = call_at (slice_set kernel.slots slot (Suspended progress.call.client progress.call))
+        mid = unmarked_at (slice_set kernel.slots slot (Suspended progress.call.client progress.call))
 
-        changes : Changes (call_at kernel.slots) mid slot (Some (unmarked progress.call))
+        changes : Changes (unmarked_at kernel.slots) mid slot (Some (unmarked progress.call))
         changes = leaves_slot kernel.slots slot (Active worker call) (Suspended progress.call.client progress.call) there
 
         within : AreSpared mid progress.tables
         within = onward mid changes
 
-        from_mid : (held : ThreadSlot) → Changes mid (call_at (slice_set kernel.slots slot held)) slot (call_in held)
+        from_mid : (held : ThreadSlot) → Changes mid (unmarked_at (slice_set kernel.slots slot held)) slot (unmarked_in held)
         from_mid held =
             let now = leaves_slot kernel.slots slot (Active worker call) held there in
             record { here = now.here; others = λ other apart. now.others other apart ∙ sym (changes.others other apart) }

@@ -5,7 +5,7 @@ use Rattle.event_journal.specs.declared.event.Event.{Event}
 use Rattle.kernel_model.specs.Application.{Booted}
 use Rattle.kernel_model.specs.History.{kernel_after}
 use Rattle.kernel_model.specs.Kernel.{Instance, Kernel, first_kernel}
-use Rattle.kernel_model.specs.Sound.{Calls, call_at}
+use Rattle.kernel_model.specs.Sound.{Calls, unmarked_at}
 use Rattle.kernel_model.specs.SoundWaiters.{awaited}
 use Rattle.kernel_model.proofs.SoundCallsJoined.{all_joined}
 use Rattle.kernel_model.proofs.SoundEvents.{holds_along}
@@ -20,7 +20,7 @@ abbrev pub OneEach : Booted → Calls → NumberMap Instance → Type 0
 OneEach boot calls tables = (uuid : List ℕ) (one other : ℕ) → IsSingle boot uuid → Claims calls tables one uuid → Claims calls tables other uuid → one ≡ other
 
 abbrev AfterOneEach : Booted → Kernel → Type 0
-AfterOneEach boot next = OneEach boot (call_at next.slots) next.tables.instances
+AfterOneEach boot next = OneEach boot (unmarked_at next.slots) next.tables.instances
 
 one_kept_up : (boot : Booted) (next : ℕ) → IsKeptUp boot next (OneEach boot)
 one_kept_up boot next = record {

@@ -6,7 +6,7 @@ use Rattle.std.proofs.lemmas.Bool.Decides.{Decides-eqb}
 use Rattle.std.proofs.lemmas.List.Quantifiers.{position-Some}
 use Rattle.std.proofs.lemmas.Option.{slice_get-get_or}
 use Rattle.kernel_model.specs.Kernel.{Active, Cancel, Free, PendingCall, Suspended, ThreadSlot, cancelled_slot, cancelled_slots, is_free, lowest_free}
-use Rattle.kernel_model.specs.Sound.{Calls, call_at, call_in, unmarked}
+use Rattle.kernel_model.specs.Sound.{Calls, unmarked_at, unmarked_in, unmarked}
 use Rattle.kernel_model.proofs.Parts.{set_found, set_other}
 
 -- ---- the same number, or another
@@ -50,16 +50,16 @@ cancelled_there [] (Some cancel) slot = refl
 cancelled_there (first ∷ slots) (Some cancel) zero = ap (λ (held : ThreadSlot). Some held) (plain_cancelled cancel first)
 cancelled_there (first ∷ slots) (Some cancel) (suc slot) = cancelled_there slots (Some cancel) slot
 
-call_in_plain : (held : Option ThreadSlot) → option_and_then call_in held ≡ option_and_then call_in (option_map plain held)
+call_in_plain : (held : Option ThreadSlot) → option_and_then unmarked_in held ≡ option_and_then unmarked_in (option_map plain held)
 call_in_plain None = refl
 call_in_plain (Some Free) = refl
 call_in_plain (Some (Active cpu call)) = refl
 call_in_plain (Some (Suspended client call)) = refl
 
-pub cancelled_call_at : (slots : List ThreadSlot) (cancels : Option Cancel) (slot : ℕ) → call_at (cancelled_slots slots cancels) slot ≡ call_at slots slot
+pub cancelled_call_at : (slots : List ThreadSlot) (cancels : Option Cancel) (slot : ℕ) → unmarked_at (cancelled_slots slots cancels) slot ≡ unmarked_at slots slot
 cancelled_call_at slots cancels slot =
     call_in_plain (slice_get (cancelled_slots slots cancels) slot)
-    ∙ ap (λ (o : Option ThreadSlot). option_and_then call_in o) (cancelled_there slots cancels slot)
+    ∙ ap (λ (o : Option ThreadSlot). option_and_then unmarked_in o) (cancelled_there slots cancels slot)
     ∙ sym (call_in_plain (slice_get slots slot))
 
 -- what is there is still there, but for a mark
@@ -90,25 +90,25 @@ pub record Changes (before after : Calls) (slot : ℕ) (now : Option PendingCall
   pub others : (other : ℕ) → (slot ≡ other → ⊥) → after other ≡ before other
 
 pub takes_slot : (slots : List ThreadSlot) (cancels : Option Cancel) (slot cpu : ℕ) (held : ThreadSlot) (call : PendingCall) → slice_get slots slot ≡ Some held
-    → Changes (call_at slots) (call_at (slice_set (cancelled_slots slots cancels) slot (Active cpu call))) slot (Some (unmarked call))
+    → Changes (unmarked_at slots) (unmarked_at (slice_set (cancelled_slots slots cancels) slot (Active cpu call))) slot (Some (unmarked call))
 takes_slot slots cancels slot cpu held call there =
     let still = still_held slots cancels slot held there in
     record {
-      here = ap (λ (o : Option ThreadSlot). option_and_then call_in o) (set_found (cancelled_slots slots cancels) slot (Active cpu call) still.0 still.1);
+      here = ap (λ (o : Option ThreadSlot). option_and_then unmarked_in o) (set_found (cancelled_slots slots cancels) slot (Active cpu call) still.0 still.1);
       others = λ other apart.
-          ap (λ (o : Option ThreadSlot). option_and_then call_in o) (set_other (cancelled_slots slots cancels) slot other (Active cpu call) apart)
+          ap (λ (o : Option ThreadSlot). option_and_then unmarked_in o) (set_other (cancelled_slots slots cancels) slot other (Active cpu call) apart)
           ∙ cancelled_call_at slots cancels other;
     }
 
 pub leaves_slot : (slots : List ThreadSlot) (slot : ℕ) (held left : ThreadSlot) → slice_get slots slot ≡ Some held
-    → Changes (call_at slots) (call_at (slice_set slots slot left)) slot (call_in left)
+    → Changes (unmarked_at slots) (unmarked_at (slice_set slots slot left)) slot (unmarked_in left)
 leaves_slot slots slot held left there = record {
-  here = ap (λ (o : Option ThreadSlot). option_and_then call_in o) (set_found slots slot left held there);
-  others = λ other apart. ap (λ (o : Option ThreadSlot). option_and_then call_in o) (set_other slots slot other left apart);
+  here = ap (λ (o : Option ThreadSlot). option_and_then unmarked_in o) (set_found slots slot left held there);
+  others = λ other apart. ap (λ (o : Option ThreadSlot). option_and_then unmarked_in o) (set_other slots slot other left apart);
 }
 
 -- no call is in a slot as the kernel boots
-pub none_at_first : (count slot : ℕ) → call_at (replicate count Free) slot ≡ None
+pub none_at_first : (count slot : ℕ) → unmarked_at (replicate count Free) slot ≡ None
 none_at_first zero slot = refl
 none_at_first (suc count) zero = refl
 none_at_first (suc count) (suc slot) = none_at_first count slot

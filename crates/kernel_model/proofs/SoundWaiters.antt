@@ -24,7 +24,7 @@ use Rattle.kernel_model.specs.History.{kernel_after}
 use Rattle.kernel_model.specs.Kernel.{Active, Asks, CallPhase, Ends, Free, Kernel, PendingCall, Progress, Runs, Suspended, Tables, ThreadSlot, Waits, first_kernel}
 use Rattle.kernel_model.specs.NewCall.{NewCall, new_call_of}
 use Rattle.kernel_model.specs.Resume.{Resumed, onward_of, phase_after, phase_seen, resumed_call, sees}
-use Rattle.kernel_model.specs.Sound.{Always, Calls, call_at, call_in, unmarked}
+use Rattle.kernel_model.specs.Sound.{Always, Calls, unmarked_at, unmarked_in, unmarked}
 use Rattle.kernel_model.specs.SoundWaiters.{AreWaiters, Awaited, IsWaiter, awaited, awaited_in}
 use Rattle.kernel_model.proofs.Parts.{if-both}
 use Rattle.kernel_model.proofs.SoundEvents.{EventCases, holds_after, resumed_taken}
@@ -261,7 +261,7 @@ exit_awaits tables call granted progress e =
 -- ---- each event
 
 abbrev AfterWaiters : Kernel → Type 0
-AfterWaiters next = AreWaiters (call_at next.slots) next.tables.waiters
+AfterWaiters next = AreWaiters (unmarked_at next.slots) next.tables.waiters
 
 waiter_cases : (boot : Booted) (kernel : Kernel) (cpu : ℕ) → AfterWaiters kernel → EventCases boot kernel cpu AfterWaiters
 waiter_cases boot kernel cpu sound = record {
@@ -269,22 +269,22 @@ waiter_cases boot kernel cpu sound = record {
   comes = λ visit slot found bytes inside free lies fits.
       let c = new_call_of boot kernel.tables visit.regs slot found bytes in
       let there = free_there kernel.slots slot free in
-      cases_onward c (NewWaiters (call_at kernel.slots) c) (λ taken. AfterWaiters (after_decision kernel visit (Takes slot taken)))
+      cases_onward c (NewWaiters (unmarked_at kernel.slots) c) (λ taken. AfterWaiters (after_decision kernel visit (Takes slot taken)))
       (λ taken new. new _ (takes_slot kernel.slots taken.cancels slot visit.cpu Free taken.call there))
-      (new_waiters (call_at kernel.slots) c sound (ap (λ (o : Option ThreadSlot). option_and_then call_in o) there));
+      (new_waiters (unmarked_at kernel.slots) c sound (ap (λ (o : Option ThreadSlot). option_and_then unmarked_in o) there));
   resumes = λ visit call given inside there offered.
       let slot = thread_in visit.regs in
       let r = resumed_call boot kernel.tables slot call given in
       let taken = resumed_taken boot kernel visit call given in
-      let its = ap (λ (o : Option ThreadSlot). awaited (option_and_then call_in o)) there ∙ sym (given_awaits given (sees call) ∙ sees_awaits call) in
-      resumed_waiters (call_at kernel.slots) r sound its _
+      let its = ap (λ (o : Option ThreadSlot). awaited (option_and_then unmarked_in o)) there ∙ sym (given_awaits given (sees call) ∙ sees_awaits call) in
+      resumed_waiters (unmarked_at kernel.slots) r sound its _
       (takes_slot kernel.slots taken.cancels slot visit.cpu (Suspended (client_in visit.regs) call) taken.call there);
   told = λ visit answer its fixed. sound;
   goes = λ visit slot worker call progress its inside there e.
       let after = exit_awaits kernel.tables call visit.steps progress e in
-      let was = after.0 ∙ sym (ap (λ (o : Option ThreadSlot). awaited (option_and_then call_in o)) there) in
+      let was = after.0 ∙ sym (ap (λ (o : Option ThreadSlot). awaited (option_and_then unmarked_in o)) there) in
       left_all slot progress.call
-      (λ held. AreWaiters (call_at (slice_set kernel.slots slot held)) (tables_left progress.tables slot held).waiters)
+      (λ held. AreWaiters (unmarked_at (slice_set kernel.slots slot held)) (tables_left progress.tables slot held).waiters)
       (left slot worker call progress.call progress.tables (Suspended progress.call.client progress.call) there after.1 was)
       (left slot worker call progress.call progress.tables (Suspended progress.call.client (unbuffered progress.call)) there after.1 was)
       (λ result params told is.
@@ -293,11 +293,11 @@ waiter_cases boot kernel cpu sound = record {
 }
   where
     left : (slot worker : ℕ) (call now : PendingCall) (tables : Tables) (held : ThreadSlot) → slice_get kernel.slots slot ≡ Some (Active worker call)
-        → tables.waiters ≡ kernel.tables.waiters → awaited (call_in held) ≡ awaited (call_at kernel.slots slot)
-        → AreWaiters (call_at (slice_set kernel.slots slot held)) tables.waiters
+        → tables.waiters ≡ kernel.tables.waiters → awaited (unmarked_in held) ≡ awaited (unmarked_at kernel.slots slot)
+        → AreWaiters (unmarked_at (slice_set kernel.slots slot held)) tables.waiters
     left slot worker call now tables held there waiters was =
-        subst (AreWaiters (call_at (slice_set kernel.slots slot held))) (sym waiters)
-        (waits_as_before (call_at kernel.slots) _ kernel.tables.waiters slot (call_in held) (leaves_slot kernel.slots slot (Active worker call) held there) sound was)
+        subst (AreWaiters (unmarked_at (slice_set kernel.slots slot held))) (sym waiters)
+        (waits_as_before (unmarked_at kernel.slots) _ kernel.tables.waiters slot (unmarked_in held) (leaves_slot kernel.slots slot (Active worker call) held there) sound was)
 
 pub waiting : (boot : Booted) (history : List Event) (kernel : Kernel) → kernel_after boot history ≡ Some kernel → AfterWaiters kernel
 waiting boot history kernel e =
@@ -313,12 +313,12 @@ waiting boot history kernel e =
     none_apart : AllPairs (λ (earlier : Waiter) (later : Waiter). earlier.slot ≡ later.slot → ⊥) []
     none_apart i j d less inside = absurd (omega arith)
 
-    nobody : (slot : ℕ) → IsSome (awaited (call_at (first_kernel boot).slots slot)) → ⊥
+    nobody : (slot : ℕ) → IsSome (awaited (unmarked_at (first_kernel boot).slots slot)) → ⊥
     nobody slot some = no_some _ (ap awaited (none_at_first boot.threads slot)) some
       where
         no_some : (o : Option Awaited) → o ≡ None → IsSome o → ⊥
         no_some None e some = cc
         no_some (Some a) e some = cc
 
-pub kernels_waiting : Always (λ boot kernel. AreWaiters (call_at kernel.slots) kernel.tables.waiters)
+pub kernels_waiting : Always (λ boot kernel. AreWaiters (unmarked_at kernel.slots) kernel.tables.waiters)
 kernels_waiting boot history kernel booted e = waiting boot history kernel e

@@ -16,13 +16,13 @@ use Rattle.kernel_model.specs.Laws.{IsOfOther}
 abbrev pub unmarked : PendingCall → PendingCall
 unmarked call = record call { marked = false }
 
-abbrev pub call_in : ThreadSlot → Option PendingCall
-call_in Free = None
-call_in (Active cpu call) = Some (unmarked call)
-call_in (Suspended client call) = Some (unmarked call)
+abbrev pub unmarked_in : ThreadSlot → Option PendingCall
+unmarked_in Free = None
+unmarked_in (Active cpu call) = Some (unmarked call)
+unmarked_in (Suspended client call) = Some (unmarked call)
 
-abbrev pub call_at : List ThreadSlot → ℕ → Option PendingCall
-call_at slots slot = option_and_then call_in (slice_get slots slot)
+abbrev pub unmarked_at : List ThreadSlot → ℕ → Option PendingCall
+unmarked_at slots slot = option_and_then unmarked_in (slice_get slots slot)
 
 -- the call of each slot, by the slot's number
 abbrev pub Calls : Type 0

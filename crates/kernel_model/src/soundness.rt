@@ -1,5 +1,5 @@
 //! What holds of each kernel that a legal history comes to.
-ghost use Rattle.kernel_model.specs.Sound.{Always, AreAsMany, AreAtWork, OthersStayAway, StepsAreGranted, call_at};
+ghost use Rattle.kernel_model.specs.Sound.{Always, AreAsMany, AreAtWork, OthersStayAway, StepsAreGranted, unmarked_at};
 ghost use Rattle.kernel_model.specs.SoundNumbers.{AreNumbered, NumbersRise};
 ghost use Rattle.kernel_model.specs.SoundOrder.{AreInOrder};
 ghost use Rattle.kernel_model.specs.SoundWaiters.{AreWaiters};
@@ -45,7 +45,7 @@ pub fn steps_are_of_entries()
 
 /// The numbers of sessions, instances, calls and waiters were given, and fit 32 bits.
 pub fn numbers_are_given()
-    ensures { Always (λ boot kernel. AreNumbered (call_at kernel.slots) kernel.tables) }
+    ensures { Always (λ boot kernel. AreNumbered (unmarked_at kernel.slots) kernel.tables) }
 {}
 
 /// No event lowers the numbers that the next session and the next instance get.
@@ -60,7 +60,7 @@ pub fn tables_are_in_order()
 
 /// The waiters are the calls that wait, each once.
 pub fn waiters_are_calls()
-    ensures { Always (λ boot kernel. AreWaiters (call_at kernel.slots) kernel.tables.waiters) }
+    ensures { Always (λ boot kernel. AreWaiters (unmarked_at kernel.slots) kernel.tables.waiters) }
 {}
 
 /// A processor that is inside has an exit.
@@ -70,7 +70,7 @@ pub fn exits_come()
 
 /// Calls, sessions and instances fit together: a call that works holds its instance, and its session is kept.
 pub fn calls_fit_their_tables()
-    ensures { Always (λ boot kernel. AreJoined (call_at kernel.slots) kernel.tables) }
+    ensures { Always (λ boot kernel. AreJoined (unmarked_at kernel.slots) kernel.tables) }
 {}
 
 /// Each call waits in a slot of its own, and so at most sixteen do.
@@ -80,22 +80,22 @@ pub fn waiters_are_a_line()
 
 /// A call that works has its instance's memory, an instance that nobody holds has it itself, and the frames suffice.
 pub fn memory_is_kept()
-    ensures { Always (λ boot kernel. AreInMemory boot (call_at kernel.slots) kernel.tables) }
+    ensures { Always (λ boot kernel. AreInMemory boot (unmarked_at kernel.slots) kernel.tables) }
 {}
 
 /// Where a call writes lies in RAM: its argument, the places of its parameters, its area, and its buffer.
 pub fn calls_have_their_places()
-    ensures { Always (λ boot kernel. HaveTheirPlaces (call_at kernel.slots)) }
+    ensures { Always (λ boot kernel. HaveTheirPlaces (unmarked_at kernel.slots)) }
 {}
 
 /// What a call asks for fits a message, with its payload.
 pub fn requests_fit()
-    ensures { Always (λ boot kernel. HaveFittingRequests (call_at kernel.slots)) }
+    ensures { Always (λ boot kernel. HaveFittingRequests (unmarked_at kernel.slots)) }
 {}
 
 /// Only slots with calls pin registered buffers.
 pub fn pins_are_of_calls()
-    ensures { Always (λ boot kernel. ArePinned (call_at kernel.slots) kernel.tables) }
+    ensures { Always (λ boot kernel. ArePinned (unmarked_at kernel.slots) kernel.tables) }
 {}
 
 /// At most one instance is kept for each session, and one that each of sixteen applications keeps alive.
@@ -116,7 +116,7 @@ pub fn frames_are_free_or_used()
 
 /// A machine's memory is the pages of its image.
 pub fn machines_have_their_pages()
-    ensures { Always (λ boot kernel. HaveTheirPages (call_at kernel.slots)) }
+    ensures { Always (λ boot kernel. HaveTheirPages (unmarked_at kernel.slots)) }
 {}
 
 /// A session that was opened keeps its instance, dead or not.

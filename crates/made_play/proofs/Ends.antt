@@ -17,7 +17,7 @@ use Rattle.kernel_model.specs.Entry.{entry}
 use Rattle.kernel_model.specs.Kernel.{Kernel, Visit}
 use Rattle.kernel_model.specs.NewCall.{new_call}
 use Rattle.kernel_model.specs.Resume.{resume}
-use Rattle.kernel_model.specs.Sound.{call_at}
+use Rattle.kernel_model.specs.Sound.{unmarked_at}
 use Rattle.kernel_model.specs.SoundRequests.{HaveFittingRequests}
 use Rattle.kernel_model.proofs.Parts.{option_map_some}
 use Rattle.kernel_model.proofs.SoundRequests.{calls_fit}
@@ -184,7 +184,7 @@ module _ (seed total : ℕ) where
       → AtMost (lane_of play cpu) (entry on play.kernel (visit_of play.history cpu steps fast_registers)) 4096
   fast_little play cpu steps = tt
 
-  resume_little : (play : Play) (cpu steps thread : ℕ) → HaveFittingRequests (call_at play.kernel.slots)
+  resume_little : (play : Play) (cpu steps thread : ℕ) → HaveFittingRequests (unmarked_at play.kernel.slots)
       → AtMost (lane_of play cpu)
       (entry on play.kernel (visit_of play.history cpu steps (resume_registers thread))) 4096
   resume_little play cpu steps thread fitting =

@@ -19,7 +19,7 @@ use Rattle.kernel_model.specs.Given.{given_after, given_to}
 use Rattle.kernel_model.specs.Kernel.{Active, Asks, CallPhase, Ends, Free, Kernel, PendingCall, Runs, Suspended, ThreadSlot, Waits}
 use Rattle.kernel_model.specs.Leaving.{FreesBuffer, Finishes, Interrupted, Leaving, Request, Requests, WantsBuffer, leaving_in, leaving_of, place_of, plain_request}
 use Rattle.kernel_model.specs.Resume.{call_resumed_by, resume, resume_call, suspended_for, takes_call}
-use Rattle.kernel_model.specs.Sound.{call_at, call_in, unmarked}
+use Rattle.kernel_model.specs.Sound.{unmarked_at, unmarked_in, unmarked}
 use Rattle.kernel_model.specs.SoundRequests.{HasFittingRequest, HaveFittingRequests}
 use Rattle.made_play.proofs.AtMost.{AtMost, then_nothing}
 
@@ -96,13 +96,13 @@ given_few lane regs (Finishes result params) fits = tt
 
 -- the call of a suspended slot
 suspended_call : (slots : List ThreadSlot) (client slot : ℕ) (held : Option ThreadSlot) (call : PendingCall)
-    → slice_get slots slot ≡ held → suspended_for client held ≡ Some call → call_at slots slot ≡ Some (unmarked call)
+    → slice_get slots slot ≡ held → suspended_for client held ≡ Some call → unmarked_at slots slot ≡ Some (unmarked call)
 suspended_call slots client slot None call is e = absurd cc
 suspended_call slots client slot (Some Free) call is e = absurd cc
 suspended_call slots client slot (Some (Active cpu working)) call is e = absurd cc
 suspended_call slots client slot (Some (Suspended owner left)) call is e =
     let same : left ≡ call = of_client (owner == client) e in
-    ap (λ (o : Option ThreadSlot). option_and_then call_in o) is ∙ ap (λ (c : PendingCall). Some (unmarked c)) same
+    ap (λ (o : Option ThreadSlot). option_and_then unmarked_in o) is ∙ ap (λ (c : PendingCall). Some (unmarked c)) same
   where
     of_client : (own : Bool) → (if own then Some left else None) ≡ Some call → left ≡ call
     of_client true e = cc
@@ -121,7 +121,7 @@ resumed_few lane boot kernel regs (Some call) fitting =
     (λ progress. tt)
 
 pub resume_few : (lane : List ℕ) (boot : Booted) (kernel : Kernel) (regs : List ℕ)
-    → HaveFittingRequests (call_at kernel.slots) → AtMost lane (resume boot kernel regs) 4096
+    → HaveFittingRequests (unmarked_at kernel.slots) → AtMost lane (resume boot kernel regs) 4096
 resume_few lane boot kernel regs fitting =
     resumed_few lane boot kernel regs (call_resumed_by kernel.slots regs) (λ call is.
     let there = suspended_call kernel.slots (client_in regs) (thread_in regs) (slice_get kernel.slots (thread_in regs))

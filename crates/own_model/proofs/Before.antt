@@ -24,7 +24,7 @@ use Rattle.kernel_model.specs.Located.{cookie_of, with_argument_pinned}
 use Rattle.kernel_model.specs.Kernel.{Visit}
 use Rattle.kernel_model.specs.NewCall.{NewCall, cancels, keeps_buffers, named_session, new_call_of, open_waits, opens}
 use Rattle.kernel_model.specs.NewCall.{settles, settles_invoke, settles_open, shared_by}
-use Rattle.kernel_model.specs.Sound.{call_at}
+use Rattle.kernel_model.specs.Sound.{unmarked_at}
 use Rattle.kernel_model.specs.SoundNumbers.{AreNumbered}
 use Rattle.kernel_model.specs.SoundCalls.{is_over, is_told}
 use Rattle.kernel_model.proofs.Parts.{if-both}
@@ -309,7 +309,7 @@ no_more n = omega arith
 
 pub own_open : (boot : Booted) (app : Application) (most : ℕ) (kernel next : Kernel) (cpu steps slot : ℕ) (regs : Regs)
     (reads : List Read)
-    (now : PendingCall) (came : OwnEvent) → SharesNone boot app → AreNumbered (call_at kernel.slots) kernel.tables
+    (now : PendingCall) (came : OwnEvent) → SharesNone boot app → AreNumbered (unmarked_at kernel.slots) kernel.tables
     → IsNew regs.a
     → slice_get next.processors cpu ≡ Some (Inside regs.a steps (InSlot slot))
     → slice_get next.slots slot ≡ Some (Active cpu now)

@@ -27,7 +27,7 @@ pub record AreBelow (slots : List ThreadSlot) (tables : Tables) : Type 0 where
 
 -- a call in a slot, without its mark
 unmarked_in : (held : ThreadSlot) (call : PendingCall) → call_in held ≡ Some call
-    → sound.call_in held ≡ Some (sound.unmarked call)
+    → sound.unmarked_in held ≡ Some (sound.unmarked call)
 unmarked_in Free call e = absurd cc
 unmarked_in (Active cpu other) call e = let same : other ≡ call = cc in
     ap (λ (c : PendingCall). Some (sound.unmarked c)) same
@@ -35,13 +35,13 @@ unmarked_in (Suspended client other) call e = let same : other ≡ call = cc in
     ap (λ (c : PendingCall). Some (sound.unmarked c)) same
 
 pub unmarked_there : (slots : List ThreadSlot) (slot : ℕ) (call : PendingCall) → call_at slots slot ≡ Some call
-    → sound.call_at slots slot ≡ Some (sound.unmarked call)
+    → sound.unmarked_at slots slot ≡ Some (sound.unmarked call)
 unmarked_there slots slot call found =
     option_and_then_some call_in (slice_get slots slot) call found
-    (λ held is in_it. ap (λ (o : Option ThreadSlot). option_and_then sound.call_in o) is ∙ unmarked_in held call in_it)
+    (λ held is in_it. ap (λ (o : Option ThreadSlot). option_and_then sound.unmarked_in o) is ∙ unmarked_in held call in_it)
 
 -- the numbers that were given lie below the next ones
-pub below_numbers : (kernel : Kernel) → AreNumbered (sound.call_at kernel.slots) kernel.tables
+pub below_numbers : (kernel : Kernel) → AreNumbered (sound.unmarked_at kernel.slots) kernel.tables
     → AreBelow kernel.slots kernel.tables
 below_numbers kernel numbers = record {
   session_from_one = at_least kernel.tables.next_instance kernel.tables.next_session numbers.from_one numbers.fewer;

@@ -21,7 +21,7 @@ use Rattle.kernel_model.specs.Instances.{app_of, is_single}
 use Rattle.kernel_model.specs.Kernel.{Active, Free, Kernel, PendingCall, Processor, Progress, Suspended, Tables}
 use Rattle.kernel_model.specs.Kernel.{ThreadSlot, Visit}
 use Rattle.kernel_model.specs.Resume.{onward_of, resumed_call}
-use Rattle.kernel_model.specs.Sound.{call_in, unmarked}
+use Rattle.kernel_model.specs.Sound.{unmarked_in, unmarked}
 use Rattle.kernel_model.specs.SoundCalls.{is_over, is_told}
 use Rattle.kernel_model.proofs.EntryLaws.{resumes_call}
 use Rattle.kernel_model.proofs.FixedAnswer.{fixed_answers}
@@ -147,7 +147,7 @@ open_there session next cpu slot call now uuid same opens named there = record {
   has = record {
     slot = slot;
     call = unmarked now;
-    in_slot = ap (λ (o : Option ThreadSlot). option_and_then call_in o) there;
+    in_slot = ap (λ (o : Option ThreadSlot). option_and_then unmarked_in o) there;
     opens = ap (λ (c : PendingCall). c.kind) (sym same) ∙ opens.kind;
     untold = ap (λ (c : PendingCall). is_told c.phase) (sym same) ∙ opens.untold;
     of_session = ap (λ (c : PendingCall). c.session) (sym same) ∙ opens.of_session;

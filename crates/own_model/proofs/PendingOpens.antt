@@ -63,17 +63,17 @@ module _ (boot : Booted) (history : List Event) (kernel : Kernel) (there : kerne
       (fits.session.opening o.has.opens o.has.untold)
 
   held : (phase : CallPhase) → o.has.call.phase ≡ phase → IsAtWork phase
-      → Claims (sound.call_at kernel.slots) kernel.tables.instances o.has.call.instance uuid
+      → Claims (sound.unmarked_at kernel.slots) kernel.tables.instances o.has.call.instance uuid
   held phase is works =
       let holds = fits.instance.working works.0 (ap job_in is ∙ works.1) in
       inl (holds.instance, holds.kept, some_uuid holds.instance.uuid uuid (sym holds.uuid ∙ o.has.of_app))
 
   -- which is kept for it, or which it waits for
-  pub opening_claims : Claims (sound.call_at kernel.slots) kernel.tables.instances o.has.call.instance uuid
+  pub opening_claims : Claims (sound.unmarked_at kernel.slots) kernel.tables.instances o.has.call.instance uuid
   opening_claims = by o.has.call.phase refl o.pending
     where
       by : (phase : CallPhase) → o.has.call.phase ≡ phase → is_over phase ≡ false
-          → Claims (sound.call_at kernel.slots) kernel.tables.instances o.has.call.instance uuid
+          → Claims (sound.unmarked_at kernel.slots) kernel.tables.instances o.has.call.instance uuid
       by (Runs job) is pending = held (Runs job) is (job, refl)
       by (Asks job wanted payload) is pending = held (Asks job wanted payload) is (job, refl)
       by (Waits params) is pending =
@@ -135,7 +135,7 @@ pending_known boot history kernel session app there p alone =
         ∙ All-get (IsOn session instance) kernel.tables.sessions session kept.session on.on kept.kept refl in
         let uuid : so.uuid ≡ uuid_of of =
         on.claimed so.uuid
-        (subst (λ n. Claims (sound.call_at kernel.slots) kernel.tables.instances n so.uuid) at
+        (subst (λ n. Claims (sound.unmarked_at kernel.slots) kernel.tables.instances n so.uuid) at
         (opening_claims boot history kernel there session so.uuid so.opening)) in
         named_alone boot of app (noted boot history session).uuid of_boot
         (some_app of app (sym of_boot ∙ ap (app_of boot) (sym uuid) ∙ so.of_boot)) alone its

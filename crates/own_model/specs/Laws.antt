@@ -15,7 +15,7 @@ use Rattle.kernel_model.specs.Leaving.{Interrupted, leaving_of}
 use Rattle.kernel_model.specs.Resume.{call_resumed_by}
 use Rattle.kernel_model.specs.Exit.{progress_in_slot}
 use Rattle.kernel_model.specs.History.{after_event}
-use Rattle.kernel_model.specs.Sound.{call_at}
+use Rattle.kernel_model.specs.Sound.{unmarked_at}
 use Rattle.kernel_model.specs.SoundNumbers.{AreNumbered}
 use Rattle.kernel_model.specs.Kernel.{Active, Fixed, InSlot, Inside, Kernel, PendingCall, Progress}
 use Rattle.own_model.specs.Own.{Logged, Notes, event_noted, event_of, events_in, no_notes, replies_in}
@@ -178,7 +178,7 @@ abbrev pub OwnOpensTie : Type 0
 OwnOpensTie =
     (boot : Booted) (app : Application) (most : ℕ) (kernel next : Kernel) (cpu steps slot : ℕ) (regs : Regs)
     (reads : List Read) (now : PendingCall) (came : OwnEvent) → SharesNone boot app →
-    AreNumbered (call_at kernel.slots) kernel.tables → IsNew regs.a →
+    AreNumbered (unmarked_at kernel.slots) kernel.tables → IsNew regs.a →
     slice_get next.processors cpu ≡ Some (Inside regs.a steps (InSlot slot)) →
     slice_get next.slots slot ≡ Some (Active cpu now) → event_of kernel.tables.next_session now ≡ Some came →
     now.uuid ≡ Some (uuid_of app) → after_event boot kernel (Entry cpu regs steps reads) ≡ Some next →

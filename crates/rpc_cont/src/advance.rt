@@ -147,7 +147,7 @@ impl<M: TaMemory + Drop> Cont<M> {
                 };
                 self.returned(image, machine, result, context)
             }
-            Stop::Panicked(code) => Some(self.panicked(code)),
+            Stop::Panicked(code) => Some(self.end_by_panic(code)),
             Stop::Asks(request) => self.ask(uuid, request),
             Stop::Interrupted => None,
         }

@@ -104,7 +104,7 @@ impl<M: TaMemory + Drop> Cont<M> {
                 self.give(result, value, 0);
                 None
             }
-            StorageStep::Panic(code) => Some(self.panicked(code)),
+            StorageStep::Panic(code) => Some(self.end_by_panic(code)),
         }
     }
 
@@ -133,7 +133,7 @@ impl<M: TaMemory + Drop> Cont<M> {
     }
 
     /// Ends the call, whose application has panicked.
-    pub(crate) fn panicked(&mut self, code: u32) -> ContStop
+    pub(crate) fn end_by_panic(&mut self, code: u32) -> ContStop
         requires { self.old.memory ≡ None }
         ensures answer { result ≡ ContStop.Panicked code }
         ensures dead { self.new.result ≡ of_tee 0xffff3024 }
