@@ -41,6 +41,7 @@ pub record Examples : Type 0 where
   pub empty : TakesLine heard.Line [] (Some (10 ∷ [])) (Some [])
   pub cut : TakesLine heard.Cut [] (Some (codes "ab")) (Some [])
   pub ended : TakesLine heard.End [] (Some []) (Some [])
+  pub lost : TakesLine heard.Failed [] (Some (codes "ab" ++ 10 ∷ [])) (Some (codes "b" ++ 10 ∷ []))
   pub at_the_limit : (line : List ℕ) → Lacks 10 line → length line ≡ 8388736 →
       TakesLine heard.Line line (Some (line ++ 10 ∷ [])) (Some [])
   pub past_the_limit : (line : List ℕ) → Lacks 10 line → length line ≡ 8388737 →
@@ -50,6 +51,7 @@ pub record Examples : Type 0 where
   pub two_lines : TakesLine heard.Line (codes "a" ++ 10 ∷ codes "b") (Some (codes "a" ++ 10 ∷ codes "b" ++ 10 ∷ [])) (Some []) → ⊥
   pub more_left : TakesLine heard.End [] (Some (codes "ab")) (Some (codes "ab")) → ⊥
   pub nothing_cut : TakesLine heard.Cut [] (Some []) (Some []) → ⊥
+  pub lost_line : TakesLine heard.Memory [] (Some (codes "ab" ++ 10 ∷ codes "c")) (Some (codes "c")) → ⊥
   pub short : TakesLine heard.Long [] (Some (codes "ab" ++ 10 ∷ [])) (Some []) → ⊥
   pub too_long : (line : List ℕ) → length line ≡ 8388737 →
       TakesLine heard.Line line (Some (line ++ 10 ∷ [])) (Some []) → ⊥
@@ -60,4 +62,6 @@ pub record Examples : Type 0 where
   pub unwritten : Happens (Says (codes "ok")) (telling [] (codes "x")) (telling [] (codes "x")) → ⊥
   pub closes : Closes finish.Over (telling [] (codes "x")) (telling [] (codes "x"))
   pub closes_early : Closes finish.Over (telling (codes "c") []) (telling (codes "c") []) → ⊥
+  pub loses_part : Closes finish.ReadFault (telling (codes "abc") []) (telling (codes "c") [])
+  pub leaves_others : Closes finish.Memory (telling (codes "a") []) (telling (codes "b") []) → ⊥
   pub gathered : IsGathered false (1 ∷ 2 ∷ []) (1 ∷ 2 ∷ [])

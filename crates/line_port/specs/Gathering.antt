@@ -69,11 +69,17 @@ pub record TakesWhole (line : List ℕ) (before after : Option (List ℕ)) : Typ
   pub short : length line ≤ MOST
   pub consumed : Consumes before after (line ++ 10 ∷ [])
 
+-- at most a part of a line: bytes of which none is a line feed
+pub record LosesPart (before after : Option (List ℕ)) : Type 0 where
+  pub text : List ℕ
+  pub lacks : Lacks 10 text
+  pub consumed : Consumes before after text
+
 -- of a reader that tells what it has left: what is gone from the front of that
 abbrev pub TakesLine : Heard → List ℕ → Option (List ℕ) → Option (List ℕ) → Type 0
 TakesLine heard.Line line before after = TakesWhole line before after
 TakesLine heard.Long line before after = TakesLong before after
 TakesLine heard.Cut line before after = TakesCut before after
 TakesLine heard.End line before after = Consumes before after [] × IsAtEnd after
-TakesLine heard.Failed line before after = Unit {0}
-TakesLine heard.Memory line before after = Unit {0}
+TakesLine heard.Failed line before after = LosesPart before after
+TakesLine heard.Memory line before after = LosesPart before after

@@ -1,8 +1,12 @@
 -- What several calls of a port come to together.
-use Rattle.std.specs.Prelude.{List, [], ◌∷◌, ◌++◌, Option, Some, None}
-use Rattle.std.proofs.Common.{sym, ap, subst, ◌∙◌, append_assoc, append-nil}
+use Rattle.std.specs.Prelude.{◌≡◌, ℕ, List, [], ◌∷◌, ◌++◌, false, Option, Some, None}
+use Rattle.std.proofs.Common.{refl, sym, ap, subst, ◌∙◌, append_assoc, append-nil, eqb}
+use Rattle.std.proofs.KnownBytes.{Consumes-nil}
+use Rattle.std.proofs.lemmas.List.Elements.{All-nil}
+use Rattle.std.specs.Io.KnownBytes.{Consumes}
+use Rattle.line_port.specs.Gathering.{LosesPart}
 use Rattle.line_port.specs.History.{Adds, Event, Hears, Says}
-use Rattle.line_port.specs.Told.{Closes, HappenInTurn, Happens, Told}
+use Rattle.line_port.specs.Told.{Closes, HappenInTurn, Happens, StandsStill, Told}
 use Rattle.line_port.specs.declared.finish.Finish.{Finish}
 use Rattle.line_port.specs.declared.finish.Finish.TheVariants as finish
 
@@ -39,7 +43,21 @@ HappenInTurn-adds (event ∷ events) a b happened =
     Adds-trans a.history happened.0.history b.history (event ∷ []) events (Happens-adds event a happened.0 happened.1)
     (HappenInTurn-adds events happened.0 b happened.2)
 
--- and how it ends adds nothing to that
+-- ---- how it ends
+
+-- where nothing was taken, no part of a line was lost
+pub LosesPart-none : (before after : Option (List ℕ)) → Consumes before after [] → LosesPart before after
+LosesPart-none before after kept = record { text = []; lacks = All-nil (λ (b : ℕ). eqb b 10 ≡ false); consumed = kept }
+
+-- a port that was left alone
+pub StandsStill-refl : (told : Told) → StandsStill told told
+StandsStill-refl told = record {
+  history = Adds-nil told.history;
+  left = LosesPart-none told.left told.left (Consumes-nil told.left);
+  held = refl;
+}
+
+-- it adds nothing to the history
 pub Closes-adds : (end : Finish) (a b : Told) → Closes end a b → Adds a.history b.history []
 Closes-adds finish.Over a b closed = closed.0.history
 Closes-adds finish.ReadFault a b closed = closed.history

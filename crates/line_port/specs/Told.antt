@@ -1,7 +1,7 @@
 -- What a port tells of itself, and what becomes of that as lines are heard and answers said. This project's own.
 use Rattle.std.specs.Prelude.{◌≡◌, ℕ, List, [], ◌∷◌, Option, IsSome}
 use Rattle.std.specs.Io.KnownBytes.{Appends, Consumes, IsAtEnd}
-use Rattle.line_port.specs.Gathering.{TakesCut, TakesLong, TakesWhole}
+use Rattle.line_port.specs.Gathering.{LosesPart, TakesCut, TakesLong, TakesWhole}
 use Rattle.line_port.specs.History.{Adds, Cut, Event, Hears, Input, Line, Long, Says}
 use Rattle.line_port.specs.declared.finish.Finish.{Finish}
 use Rattle.line_port.specs.declared.finish.Finish.TheVariants as finish
@@ -37,12 +37,14 @@ HappenInTurn (event ∷ events) old new = (between : Told) × Happens event old 
 
 -- ---- how it ends
 
--- nothing more was heard, said or written; a fault of reading, or want of memory, may have cost a part of a line
+-- nothing more was heard, said or written. A fault of reading, or want of memory, may have cost a part of a line, and all else of what
+-- was left is left still
 pub record StandsStill (old new : Told) : Type 0 where
   pub history : Adds old.history new.history []
+  pub left : LosesPart old.left new.left
   pub held : new.held ≡ old.held
 
--- it came to its end so: behind the end of the input nothing is left
+-- it came to its end so: where that is the end of the input, nothing was left, and nothing is
 abbrev pub Closes : Finish → Told → Told → Type 0
 Closes finish.Over old new = StandsStill old new × (IsSome old.left → Consumes old.left new.left [] × IsAtEnd new.left)
 Closes finish.ReadFault old new = StandsStill old new

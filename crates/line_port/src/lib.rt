@@ -15,7 +15,7 @@
 //!   their order, after a fault of writing a part from the front of these. Where it tells them, it has what is left to be
 //!   heard, at whose front a line that is heard stood, and what was written, at whose end what is said stands (`Happens`).
 //! - It has an end, which the end of the input, a fault of reading, one of writing or want of memory brings, each by its
-//!   name, and nothing else. No call may be made behind it.
+//!   name, and nothing else. Of what is left it costs at most a part of a line (`Closes`). No call may be made behind it.
 //! - A fault of either is counted in the call that answers it, and no other call moves the counts (`faults_behind`).
 //! - `StdPort` over a reader and a writer that tell what they have: `hear` takes a line of at most 8,388,736 bytes and
 //!   its line feed, or all of a longer one, or what stands before the end of the input, as it says. It reads nothing

@@ -197,20 +197,21 @@ impl<R: Read> LineReader<R> {
         }
     }
 
-    /// Takes what is pending of a line, through the line feed that ends it.
+    /// Takes what is pending of a line, through the line feed that ends it. Where memory is wanting nothing is taken.
     fn take_pending(&mut self, line: &mut Vec<u8>, is_long: &mut bool) -> Result<Part, AllocError>
         ensures takes { IfOk result (λ part. TakesPart part (left R.remaining self.old) (left R.remaining self.new)
             is_long.old line.old.items is_long.new line.new.items) }
         ensures whole { ¬ Lacks 10 self.old.pending → IfOk result (λ part. part ≡ Part.Last) }
         ensures reader { self.new.reader ≡ self.old.reader }
         ensures faults { self.new.faults ≡ self.old.faults }
+        ensures kept { OnErr result (self.new.pending ≡ self.old.pending) }
     {
         let (taken, part) = take_from(&self.chunk[self.at..self.end], line, is_long)?;
         self.at += taken;
         Ok(part)
     }
 
-    /// Takes what has come of a line, or waits for some of it.
+    /// Takes what has come of a line, or waits for some of it. Where a read fails, or memory is wanting, nothing is taken.
     fn take_part(&mut self, line: &mut Vec<u8>, is_long: &mut bool) -> Result<Part, Stop>
         ensures takes { IfOk result (λ part. TakesPart part (left R.remaining self.old) (left R.remaining self.new)
             is_long.old line.old.items is_long.new line.new.items) }
@@ -218,6 +219,7 @@ impl<R: Read> LineReader<R> {
         ensures prompt { ¬ Lacks 10 self.old.pending → self.new.reader ≡ self.old.reader }
         ensures fault { result ≡ Err Stop.Fault → self.new.faults ≡ risen self.old.faults }
         ensures stays { result ≢ Err Stop.Fault → self.new.faults ≡ self.old.faults }
+        ensures kept { OnErr result (Keeps (left R.remaining self.old) (left R.remaining self.new)) }
     {
         if self.at == self.end && !self.refill()? {
             return Ok(Part::None);

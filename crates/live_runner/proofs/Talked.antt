@@ -4,7 +4,7 @@ use Rattle.std.specs.Prelude.{IfSome, IsSome, Ok, filter}
 use Rattle.kernel_model.specs.Application.{IsBooted, booted}
 use Rattle.kernel_model.proofs.Parts.{some_of}
 use Rattle.line_port.specs.History.{Adds, Event, Hears, Input, Says}
-use Rattle.line_port.specs.Laws.{Adds-nil, Adds-trans, Closes-adds, HappenInTurn-adds, HappenInTurn-trans}
+use Rattle.line_port.specs.Laws.{Adds-trans, Closes-adds, HappenInTurn-adds, HappenInTurn-trans, StandsStill-refl}
 use Rattle.line_port.specs.Told.{Closes, HappenInTurn, Told}
 use Rattle.line_port.specs.declared.finish.Finish.{Finish}
 use Rattle.line_port.specs.declared.finish.Finish.TheVariants as finish
@@ -164,7 +164,7 @@ ends-unheard on here now = record {
   rest = [];
   behind = now;
   happened = refl;
-  closed = record { history = Adds-nil now.history; held = refl };
+  closed = StandsStill-refl now;
   ended = inl refl;
 }
 

@@ -5,7 +5,7 @@ use Rattle.line_port.specs.Faults.{faults_behind}
 use Rattle.line_port.specs.Finish.{finish_of_heard, finish_of_said}
 use Rattle.line_port.specs.History.{Event, Hears, Input, Says}
 use Rattle.line_port.specs.History as history
-use Rattle.line_port.specs.Laws.{Adds-nil}
+use Rattle.line_port.specs.Laws.{StandsStill-refl}
 use Rattle.line_port.specs.Told.{Closes, Happens, HearsAs, Told}
 use Rattle.line_port.specs.declared.faults.Faults.{Faults}
 use Rattle.line_port.specs.declared.finish.Finish.{Finish}
@@ -70,7 +70,7 @@ ended-unanswered on here input old now happened = record {
   rest = Hears input ∷ [];
   behind = now;
   happened = (now, happened, refl);
-  closed = record { history = Adds-nil now.history; held = refl };
+  closed = StandsStill-refl now;
   ended = inr (input, refl);
 }
 
@@ -111,7 +111,7 @@ ended-saying on here spoken input talk said.Memory end a b c answered same happe
       rest = Hears input ∷ [];
       behind = c;
       happened = (b, happened, memory refl);
-      closed = record { history = Adds-nil c.history; held = refl };
+      closed = StandsStill-refl c;
       ended = inr (input, refl);
     })
 
