@@ -1,9 +1,10 @@
 -- What stands behind the line of an exit that is watched, and that it tells of all RAM.
-use Rattle.std.proofs.Common.{◌≡◌, ℕ, ◌≤◌, List, [], ◌∷◌, ◌++◌, length, drop, Option, Some, None, refl, sym, ap, subst, ◌∙◌, append-nil, arith}
+use Rattle.std.proofs.Common.{◌≡◌, ◌⊎◌, ℕ, ◌≤◌, inl, inr, List, [], ◌∷◌, ◌++◌, length, drop, Option, Some, None, refl, sym, ap, subst, ◌∙◌, append-nil, arith}
 use Rattle.std.specs.Prelude.{slice_index_or}
 use Rattle.std.specs.List.{flat_map}
 use Rattle.std.specs.Option.{option_and_then, option_map_or}
 use Rattle.std.proofs.Math.Seq.{drop-nil}
+use Rattle.std.proofs.lemmas.List.{drop_all}
 use Rattle.kernel_model.specs.Application.{booted}
 use Rattle.kernel_model.proofs.Parts.{some_of}
 use Rattle.line_port.specs.History.{Input}
@@ -19,10 +20,10 @@ use Rattle.live_play.specs.Answer.{Answer, Bad, Done, Full, Platform, TooLong, a
 use Rattle.live_play.specs.Conversation.{after_all}
 use Rattle.live_play.specs.Returns.{returns_in}
 use Rattle.live_play.specs.Showing.{lane_at, text_behind, watched_answer, watched_line}
-use Rattle.live_play.specs.ShowingLaws.{ExitsAreWatched, IsWatched, OthersStay, answer_of_exit}
+use Rattle.live_play.specs.ShowingLaws.{ExitsAreWatched, IsWatched, OthersStay, TellsOneExitAtMost, answer_of_exit}
 use Rattle.live_play.proofs.Changing.{changes_tell_all}
 use Rattle.live_play.proofs.Effects.{AddsItem, AddsSignal, Effect, Heads, Stays, effect}
-use Rattle.live_play.proofs.Outgoing.{GoesOut, cut_front, printed_more, step-goes, step-stays, step_on, step_out, stepped}
+use Rattle.live_play.proofs.Outgoing.{GoesOut, cut_front, none_returned, one_returned, printed_more, step-goes, step-stays, step_on, step_out, stepped}
 use Rattle.live_play.proofs.Talking.{IsStage, answer_by, answer_unless, counted, item_steps, more-played, printed_by, quiet, refused_by, signal_steps, stage-first, talked}
 
 -- ---- the text of lines
@@ -53,6 +54,86 @@ exit_watched on before input cpu regs is =
     let after : NotifyFront = after_heard on before input in
     ap (watched_answer on before after) is
     ∙ ap (λ (text : List ℕ). text ++ text_of_ending Done) (append-nil (watched_line on before after (Ret cpu regs)))
+
+-- ---- at most one goes out
+
+-- no line `ret` is among these, or they are one
+abbrev HaveOneAtMost : List Line → Type 0
+HaveOneAtMost lines = (returns_in lines ≡ []) ⊎ ((cpu : ℕ) × (regs : List ℕ) × (lines ≡ Ret cpu regs ∷ []))
+
+-- what is printed more by those lines than by these
+abbrev printed_between : Platform → NotifyFront → NotifyFront → List Line
+printed_between on before after = drop (length (printed_at on before)) (printed_at on after)
+
+one_gone : (on : Platform) (boot : Boot) (step : Step) (cpu : ℕ) (before after : NotifyFront)
+    → play_at on after ≡ option_and_then (step_on on boot step) (play_at on before)
+    → refused_at on before ≡ None → refused_at on after ≡ None → step_out step ≡ Some cpu
+    → (o : Option NotifyPlay) → play_at on after ≡ o → HaveOneAtMost (printed_between on before after)
+one_gone on boot step cpu before after e going still out None is =
+    let count : ℕ = length (printed_at on before) in
+    inl (ap returns_in (ap (drop count) (ap printed_by is) ∙ drop-nil count))
+one_gone on boot step cpu before after e going still out (Some next) is =
+    let gone = one_returned on boot step cpu before after next e going out is (sym (ap refused_by is) ∙ still) in
+    inr (cpu, gone.0, gone.1)
+
+one_stepped : (on : Platform) (boot : Boot) (step : Step) (before after : NotifyFront)
+    → play_at on after ≡ option_and_then (step_on on boot step) (play_at on before)
+    → refused_at on before ≡ None → refused_at on after ≡ None → (out : Option ℕ) → step_out step ≡ out
+    → HaveOneAtMost (printed_between on before after)
+one_stepped on boot step before after e going still None out = inl (none_returned on boot step before after e going out)
+one_stepped on boot step before after e going still (Some cpu) out =
+    one_gone on boot step cpu before after e going still out (play_at on after) refl
+
+one_printed : (on : Platform) (before after : NotifyFront) → IsStage on before → refused_at on after ≡ None → Effect before after
+    → HaveOneAtMost (printed_between on before after)
+one_printed on before after stage still (Stays is) =
+    let printed : List Line = printed_at on before in
+    inl (ap (λ (lines : NotifyFront). returns_in (printed_between on before lines)) is
+    ∙ ap returns_in (drop_all (length printed) printed (omega arith)))
+one_printed on before after stage still (Heads was now stays there) =
+    let count : ℕ = length (printed_at on before) in
+    inl (ap returns_in (ap (drop count) (quiet on after now).printed ∙ drop-nil count))
+one_printed on before after stage still (AddsItem i there is) =
+    let boot = some_of before.trace.boot there in
+    let now : after.trace.boot ≡ Some boot.0 = ap (λ (f : NotifyFront). f.trace.boot) is ∙ boot.1 in
+    let steps : steps_of (notify_trace_in after) ≡ steps_of (notify_trace_in before) ++ Takes i ∷ [] =
+    ap (λ (f : NotifyFront). steps_of (notify_trace_in f)) is ∙ item_steps before i stage.orderly in
+    one_stepped on boot.0 (Takes i) before after
+    (more-played on boot.0 before after (Takes i) boot.1 now (ap (λ (f : NotifyFront). f.trace.fills) is) steps)
+    stage.going still (step_out (Takes i)) refl
+one_printed on before after stage still (AddsSignal value there is) =
+    let boot = some_of before.trace.boot there in
+    let now : after.trace.boot ≡ Some boot.0 = ap (λ (f : NotifyFront). f.trace.boot) is ∙ boot.1 in
+    let steps : steps_of (notify_trace_in after) ≡ steps_of (notify_trace_in before) ++ Signals value ∷ [] =
+    ap (λ (f : NotifyFront). steps_of (notify_trace_in f)) is ∙ signal_steps before value in
+    one_stepped on boot.0 (Signals value) before after
+    (more-played on boot.0 before after (Signals value) boot.1 now (ap (λ (f : NotifyFront). f.trace.fills) is) steps)
+    stage.going still None refl
+
+abbrev done_with : List Line → Answer
+done_with lines = record { lines = lines; ending = Done }
+
+one_told : (lines : List Line) → HaveOneAtMost lines → TellsOneExitAtMost (done_with lines)
+one_told lines (inl none) = inl none
+one_told lines (inr one) = inr (one.0, one.1, ap done_with one.2)
+
+one_between : (on : Platform) (before after : NotifyFront) → IsStage on before → Effect before after
+    → (refused : Option ℕ) → refused_at on after ≡ refused → TellsOneExitAtMost (answer_unless on before after refused)
+one_between on before after stage effects (Some more) is = inl refl
+one_between on before after stage effects None is =
+    one_told (printed_between on before after) (one_printed on before after stage is effects)
+
+one_to_line : (on : Platform) (before : NotifyFront) (line : List ℕ) → IsStage on before
+    → (fault : Option BadKind) → fault_at on before line ≡ fault → TellsOneExitAtMost (answer_by on before line fault)
+one_to_line on before line stage (Some kind) is = inl refl
+one_to_line on before line stage None is =
+    one_between on before (after_line before line) stage (effect (uuids_in on) before line stage.orderly is)
+    (refused_at on (after_line before line)) refl
+
+one_at_most : (on : Platform) (before : NotifyFront) (input : Input) → IsStage on before → TellsOneExitAtMost (answer on before input)
+one_at_most on before (heard.Line line) stage = one_to_line on before line stage (fault_at on before line) refl
+one_at_most on before heard.Long stage = inl refl
+one_at_most on before heard.Cut stage = inl refl
 
 -- ---- RAM
 
@@ -177,6 +258,8 @@ ram_behind on inputs input cpu regs is =
 
 pub exits_are_watched : ExitsAreWatched
 exits_are_watched = record {
+  at_most_one = λ on inputs input.
+      one_at_most on (after_all on no_lines inputs) input (talked on no_lines inputs (stage-first on)).stage;
   unwatched = λ on before after given none.
       ap (λ (text : List ℕ). text ++ text_of_ending given.ending) (unwatched-lines on before after given.lines none);
   told = exit_watched;

@@ -1,5 +1,5 @@
 -- What holds of each conversation in which lines may ask.
-use Rattle.std.specs.Prelude.{◌≡◌, ℕ, ◌^◌, ◌≤◌, List, [], ◌∷◌, ◌++◌, ◌&&◌, Bool, true, false, not, filter, is_none, is_some, None, Some}
+use Rattle.std.specs.Prelude.{◌≡◌, ◌⊎◌, ℕ, ◌^◌, ◌≤◌, List, [], ◌∷◌, ◌++◌, ◌&&◌, Bool, true, false, not, filter, is_none, is_some, None, Some}
 use Rattle.std.specs.List.{list_all}
 use Rattle.line_port.specs.History.{Event, Hears, Input, Says}
 use Rattle.live_text.specs.Asking.{question_rules}
@@ -149,6 +149,10 @@ pub record PlainConversationsAreAsBefore : Type 0 where
 abbrev pub answer_of_exit : ℕ → List ℕ → Answer
 answer_of_exit cpu regs = record { lines = Ret cpu regs ∷ []; ending = Done }
 
+-- it has no line `ret`, or it is the answer of an exit
+abbrev pub TellsOneExitAtMost : Answer → Type 0
+TellsOneExitAtMost given = (returns_in given.lines ≡ []) ⊎ ((cpu : ℕ) × (regs : List ℕ) × (given ≡ answer_of_exit cpu regs))
+
 -- behind the line of an exit stands the panic in which its call has ended, if it did, and then what has changed in the processor's
 -- RAM
 abbrev pub IsWatched : Platform → NotifyFront → Input → ℕ → List ℕ → Type 0
@@ -166,6 +170,9 @@ abbrev pub OthersStay : Platform → NotifyFront → NotifyFront → ℕ → Typ
 OthersStay on before after cpu = (other : ℕ) → (other ≡ cpu → ⊥) → lane_at on after other ≡ lane_at on before other
 
 pub record ExitsAreWatched : Type 0 where
+  -- behind lines that count each answer has no line `ret`, or is that of an exit: the next two say what is shown of either
+  pub at_most_one : (on : Platform) (inputs : List Input) (input : Input) →
+      TellsOneExitAtMost (answer on (after_all on no_lines inputs) input)
   -- an answer that has no line `ret` is as where no exit is watched
   pub unwatched : (on : Platform) (before after : NotifyFront) (given : Answer) → returns_in given.lines ≡ [] →
       watched_answer on before after given ≡ text_of_answer given

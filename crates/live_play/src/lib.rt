@@ -48,7 +48,8 @@
 //! - Where nothing asks or turns history off, all goes as without such lines (`plain_conversations_are_as_before`).
 //! - Behind the line of an exit that is watched stands the panic in which its call has ended, if it did, and then what
 //!   has changed in its processor's RAM (`exits_are_watched`). Laid over what that RAM was, this gives what it is, and
-//!   the RAM of every other processor is what it was. An answer that has no line `ret` is as where no exit is watched.
+//!   the RAM of every other processor is what it was. An answer behind lines that count is that of one exit, or has no
+//!   line `ret`, and is then as where no exit is watched.
 //! - What has changed gives what RAM is over any RAM that becomes no shorter (`changes_tell_all`), as none does
 //!   (`ram_is_kept` of `play_model`).
 //! - So a copy that is kept over a whole conversation is the RAM of each processor, behind each answer, where each exit
