@@ -1,12 +1,17 @@
--- That a panic is told where its call ends, and that of a call that has ended none is told.
-use Rattle.std.specs.Prelude.{◌≡◌, ℕ, Bool, true, false, Option, None, Some, slice_get}
+-- That a panic is told where its call ends, with the result of a panic, and that of a call that has ended none is told.
+use Rattle.std.specs.Prelude.{◌≡◌, ℕ, List, [], ◌∷◌, Bool, true, false, Option, None, Some, slice_get}
 use Rattle.std.specs.Option.{option_and_then}
 use Rattle.core_at_work.specs.Panics.{panic_of}
 use Rattle.event_journal.specs.declared.event.Event.{Event}
+use Rattle.job_model.specs.Job.{of_tee}
 use Rattle.kernel_model.specs.Application.{Booted}
-use Rattle.kernel_model.specs.Exit.{Exited, exit}
+use Rattle.kernel_model.specs.Codes.{target_dead}
+use Rattle.kernel_model.specs.Exit.{Exited, exit, word32}
 use Rattle.kernel_model.specs.History.{after_event}
-use Rattle.kernel_model.specs.Kernel.{Active, Asks, CallPhase, Ends, Fixed, Free, InSlot, Inside, Kernel, Outside, Processor, Runs, Suspended, ThreadSlot, Waits}
+use Rattle.kernel_model.specs.Kernel.{Active, Asks, CallPhase, Ends, Fixed, Free, InSlot, Inside, Kernel, Outside, PendingCall, Processor, Runs, Suspended, ThreadSlot, Waits}
+use Rattle.msg_args.specs.Layout.{origin_at, ret_at}
+use Rattle.ns_ram.specs.Writes.{Write}
+use Rattle.ta_params.specs.declared.call_result.CallResult.{CallResult}
 
 -- the slot of the call that a processor works on
 abbrev pub slot_of : Processor → Option ℕ
@@ -36,10 +41,42 @@ pub record IsEnded (kernel : Kernel) (slot : ℕ) : Type 0 where
   pub there : slice_get kernel.slots slot ≡ Some held
   pub ended : has_ended held ≡ true
 
+-- ---- what a call ends with
+
+-- the result that a call has
+abbrev pub result_in : CallPhase → Option CallResult
+result_in (Runs job) = None
+result_in (Asks job wanted payload) = None
+result_in (Waits params) = None
+result_in (Ends result params told wakes) = Some result
+
+-- behind an exit that wrote this, a slot holds the call whose argument lies there, with this result; or the result was written to the
+-- argument, and the slot is free
+abbrev pub GivesResult : ℕ → CallResult → List Write → ThreadSlot → Type 0
+GivesResult arg result writes Free = writes ≡ word32 (ret_at arg) result.result ∷ word32 (origin_at arg) result.origin ∷ []
+GivesResult arg result writes (Active worker call) = ⊥
+GivesResult arg result writes (Suspended client call) = (call.arg ≡ arg) × (result_in call.phase ≡ Some result)
+
+-- TEE_ERROR_TARGET_DEAD, of the TEE
+abbrev pub result_of_panic : CallResult
+result_of_panic = of_tee target_dead
+
+-- by this exit the call of a slot has come to this result
+pub record ComesTo (kernel : Kernel) (slot : ℕ) (result : CallResult) (exited : Exited) : Type 0 where
+  pub worker : ℕ
+  pub call : PendingCall
+  pub was : slice_get kernel.slots slot ≡ Some (Active worker call)
+  pub held : ThreadSlot
+  pub there : slice_get exited.kernel.slots slot ≡ Some held
+  pub gives : GivesResult call.arg result exited.writes held
+
 pub record PanicsEndCalls : Type 0 where
   -- behind the exit at which a panic is told, its call has ended
   pub ends : (kernel : Kernel) (cpu code : ℕ) (exited : Exited) → panic_of kernel cpu ≡ Some code → exit kernel cpu ≡ Some exited →
       (slot : ℕ) × (slot_at kernel cpu ≡ Some slot) × IsEnded exited.kernel slot
+  -- with the result of a panic
+  pub result : (kernel : Kernel) (cpu code : ℕ) (exited : Exited) → panic_of kernel cpu ≡ Some code → exit kernel cpu ≡ Some exited →
+      (slot : ℕ) × (slot_at kernel cpu ≡ Some slot) × ComesTo kernel slot result_of_panic exited
   -- and of one that has, none is told, as where a buffer is asked back behind it
   pub told_no_more : (kernel : Kernel) (cpu slot : ℕ) → slot_at kernel cpu ≡ Some slot → IsEnded kernel slot →
       panic_of kernel cpu ≡ None
