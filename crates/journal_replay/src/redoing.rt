@@ -1,12 +1,12 @@
 //! What is done with a replay: events, one after the other.
 ghost use Rattle.std.specs.Prelude.{◌≡◌, ◌↔◌, ◌≤◌, ◌^◌, ℕ, List, [], ◌∷◌, ◌++◌, IfOk, IsTrue, Ok};
 ghost use Rattle.core_at_work.specs.Booting.{IsApart};
-ghost use Rattle.core_at_work.specs.Working.{HasComeIn};
+ghost use Rattle.core_at_work.specs.Working.{HasComeIn, SameOutgoing};
 ghost use Rattle.event_journal.specs.Journal.{copied_bytes};
 ghost use Rattle.event_journal.specs.declared.event.Event.TheVariants.{Entry, Exit};
 ghost use Rattle.journal_replay.specs.Laying.{AreOfOneRam};
 ghost use Rattle.journal_replay.specs.Replaying.{Does, HasDone, PreparesNext, boot_of, done_by};
-ghost use Rattle.kernel_entry.specs.Entering.{IsPrepared, WasPrepared};
+ghost use Rattle.kernel_entry.specs.Entering.{HasMoreRoom, IsPrepared, WasPrepared};
 ghost use Rattle.kernel_entry.specs.Visiting.{coming_of};
 ghost use Rattle.kernel_model.specs.Application.{booted};
 ghost use Rattle.kernel_state.specs.Booting.{IsWithinLimits};
@@ -97,7 +97,7 @@ impl Replay {
     }
 
     /// Prepares the entry of a visitor over RAM that has what it reads, if that can be of one RAM: what was decided can be read then.
-    /// `None` where it can't have come next. Nothing is done so far.
+    /// `None` where it can't have come next. Whatever the answer, nothing is done so far: the core stays as it is, but has more room.
     #[inline(always)]
     pub fn prepare(
         &mut self,
@@ -107,7 +107,9 @@ impl Replay {
     ) -> Result<Option<Prepared>, NoMemory>
         requires laid { AreOfOneRam reads.now → HoldsReads self.old.lane reads.now }
         requires few { copied_bytes (done_by self.old ++ Entry visitor.now.cpu visitor.now.regs visitor.now.steps reads.now ∷ []) ≤ 2 ^ 28 }
-        ensures { PreparesNext self.old self.new visitor.now reads.now result }
+        ensures prepares { PreparesNext self.old self.new visitor.now reads.now result }
+        ensures room { HasMoreRoom self.old.at_work.core.parts self.new.at_work.core.parts }
+        ensures others { SameOutgoing self.old.at_work self.new.at_work }
     {
         match self.at_work.prepare(alloc, visitor, &self.lane) {
             Ok(prepared) => {

@@ -9,15 +9,15 @@ invariant_of-self c =
     let old = c.args.self.now in
     record { kept = (with_room old.at_work.core c.prepare.new.self.core c.prepare.ensures.room).terms ∙ old.kept }
 
-pub returns-then-are_same_reads : goal.returns-then-are_same_reads
-returns-then-are_same_reads c = record {
+pub returns-then-are_same_reads-clause-prepares : goal.returns-then-are_same_reads-clause-prepares
+returns-then-are_same_reads-clause-prepares c = record {
   room = c.prepare.ensures.room;
   is = c.in-Ok.ensures.prepares;
   reads_so = sym c.as_slice.ensures ∙ c.are_same_reads.ensures.0 c.if-are_same_reads.true;
 }
 
-pub returns-else-are_same_reads : goal.returns-else-are_same_reads
-returns-else-are_same_reads c can =
+pub returns-else-are_same_reads-clause-prepares : goal.returns-else-are_same_reads-clause-prepares
+returns-else-are_same_reads-clause-prepares c can =
     let old = c.args.self.now in
     let visitor = c.args.visitor.now in
     let reads = c.args.reads.now in
@@ -26,8 +26,8 @@ returns-else-are_same_reads c can =
     let yes = c.are_same_reads.ensures.1 (c.as_slice.ensures ∙ same) in
     absurd cc
 
-pub returns-in-Err-Full : goal.returns-in-Err-Full
-returns-in-Err-Full c can =
+pub returns-in-Err-Full-clause-prepares : goal.returns-in-Err-Full-clause-prepares
+returns-in-Err-Full-clause-prepares c can =
     let old = c.args.self.now in
     let visitor = c.args.visitor.now in
     let reads = c.args.reads.now in
