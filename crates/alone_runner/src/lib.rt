@@ -35,6 +35,7 @@ mod work;
 pub use at_end::AtEnd;
 pub use command::Grammar;
 pub use content::Content;
+pub use journal_runner::{Compared, ReadJournal, compare, compare_groups};
 pub use serving::Serve;
 pub use top_call::run_alone;
 pub use word_parts::{LONGEST_INPUT, Status};

@@ -3,3 +3,4 @@ pub mod SoundBoots
 pub mod SoundJournals
 mod LaneReads
 pub mod SteadyPlays
+pub use Rattle.journal_replay.proofs.Next

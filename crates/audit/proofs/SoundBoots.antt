@@ -1,7 +1,7 @@
 -- A boot that was read beside built-in applications can be checked beside them.
 use Rattle.std.specs.Prelude.{map}
 use Rattle.audit.specs.Laws.{ReadBootsCanBeChecked}
-use Rattle.core_at_work.proofs.Apart.{none_repeated, within_limits}
+use Rattle.journal_replay.proofs.Apart.{none_repeated, within_limits}
 use Rattle.kernel_model.specs.Application.{Native}
 
 pub read_boots_can_be_checked : ReadBootsCanBeChecked

@@ -5,7 +5,7 @@ use Rattle.audit_model.specs.declared.verdict.Verdict.TheVariants.{Legal}
 use Rattle.event_journal.specs.Journal.{copied_bytes}
 use Rattle.event_journal.specs.declared.event.Event.{Event}
 use Rattle.journal_bytes.specs.Sound.{IsSoundJournal}
-use Rattle.core_at_work.specs.Booting.{IsApart}
+use Rattle.journal_replay.specs.Booting.{IsApart}
 use Rattle.kernel_model.specs.Application.{Booted, IsBooted, Native, booted}
 use Rattle.kernel_model.specs.History.{IsLegal}
 use Rattle.kernel_state.specs.Booting.{IsWithinLimits}

@@ -2,7 +2,7 @@
 ghost use Rattle.std.specs.Prelude.{◌≤◌, ◌^◌, IfOk};
 ghost use Rattle.audit_model.specs.Verdicts.{IsVerdict};
 ghost use Rattle.event_journal.specs.Journal.{copied_bytes};
-ghost use Rattle.core_at_work.specs.Booting.{IsApart};
+ghost use Rattle.journal_replay.specs.Booting.{IsApart};
 ghost use Rattle.kernel_model.specs.Application.{booted};
 ghost use Rattle.kernel_state.specs.Booting.{IsWithinLimits};
 ghost use Rattle.native_tas.specs.Table.{entries};

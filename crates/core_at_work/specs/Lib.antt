@@ -3,3 +3,8 @@ pub mod Insides
 pub mod Outgoing
 pub mod Panics
 pub mod Working
+pub use Rattle.kernel_entry.specs.Deciding
+pub use Rattle.kernel_entry.specs.Entering
+pub use Rattle.kernel_entry.specs.Visiting
+pub use Rattle.kernel_entry.specs.declared.preparing.Prepared
+pub use Rattle.kernel_entry.specs.declared.visitor.Visitor

@@ -40,5 +40,6 @@ mod working;
 pub use base::NoMemory;
 pub use booting::{core_of, core_on};
 pub use core_at_work::CoreAtWork;
+pub use kernel_entry::{Prepared, Visitor};
 pub use went_out::WentOut;
 pub use working::MOST_STEPS;

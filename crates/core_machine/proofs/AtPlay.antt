@@ -10,8 +10,8 @@ use Rattle.event_journal.specs.Event.{copied_by}
 use Rattle.event_journal.specs.Journal.{copied_bytes}
 use Rattle.event_journal.specs.declared.event.Event.{Event}
 use Rattle.event_journal.specs.declared.event.Event.TheVariants.{Entry, Exit}
-use Rattle.kernel_entry.specs.Visiting.{coming_of}
-use Rattle.kernel_entry.specs.declared.visitor.Visitor.{Visitor}
+use Rattle.core_at_work.specs.Visiting.{coming_of}
+use Rattle.core_at_work.specs.Visitor.{Visitor}
 use Rattle.kernel_model.specs.Application.{Booted}
 use Rattle.kernel_model.specs.Entry.{entry}
 use Rattle.kernel_model.specs.Exit.{Exited, exit}

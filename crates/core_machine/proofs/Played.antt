@@ -17,8 +17,8 @@ use Rattle.core_machine.specs.declared.smc.Smc.TheVariants.{Comes, Leaves}
 use Rattle.core_machine.proofs.AtPlay.{CoreAt, came_in, entry_at, entry_comes, entry_refused, exit_at, exit_comes}
 use Rattle.core_machine.proofs.AtPlay.{gone_out}
 use Rattle.core_machine.proofs.Stands.{core_at}
-use Rattle.kernel_entry.specs.Visiting.{coming_of}
-use Rattle.kernel_entry.specs.declared.visitor.Visitor.{Visitor}
+use Rattle.core_at_work.specs.Visiting.{coming_of}
+use Rattle.core_at_work.specs.Visitor.{Visitor}
 use Rattle.kernel_model.specs.Application.{Booted}
 use Rattle.kernel_model.specs.Kernel.{Kernel, Outside}
 use Rattle.kernel_state.specs.Entering.{CanEnter, IsAsBefore, visit_of}

@@ -18,8 +18,8 @@ use Rattle.core_machine.specs.declared.smc.Told.{Told}
 use Rattle.core_machine.proofs.Stands.{stands, turns_are_taken}
 use Rattle.event_journal.specs.declared.event.Event.{Event}
 use Rattle.event_journal.specs.declared.event.Event.TheVariants.{Entry, Exit}
-use Rattle.kernel_entry.specs.Visiting.{coming_of}
-use Rattle.kernel_entry.specs.declared.visitor.Visitor.{Visitor}
+use Rattle.core_at_work.specs.Visiting.{coming_of}
+use Rattle.core_at_work.specs.Visitor.{Visitor}
 use Rattle.kernel_model.specs.Application.{Booted}
 use Rattle.kernel_model.specs.Kernel.{Kernel, Visit}
 use Rattle.kernel_state.specs.Entering.{visit_of}

@@ -7,7 +7,7 @@ use Rattle.core_machine.specs.Turns.{ComeInTurn}
 use Rattle.core_machine.specs.declared.machine.Machine.{Machine}
 use Rattle.core_machine.specs.declared.smc.Smc.{Smc}
 use Rattle.core_machine.specs.declared.smc.Smc.TheVariants.{Comes, Leaves}
-use Rattle.kernel_entry.specs.declared.visitor.Visitor.{Visitor}
+use Rattle.core_at_work.specs.Visitor.{Visitor}
 use Rattle.kernel_model.specs.Application.{Booted}
 use Rattle.kernel_model.specs.Kernel.{Errand, Inside, Kernel, Outside, Visit, first_kernel}
 use Rattle.kernel_state.specs.Meaning.{booted_of, kernel_of}

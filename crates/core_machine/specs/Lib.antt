@@ -3,3 +3,7 @@ pub mod Standing
 pub mod Moving
 pub mod Serving
 pub mod Laws
+pub use Rattle.core_at_work.specs.Insides
+pub use Rattle.core_at_work.specs.Panics
+pub use Rattle.core_at_work.specs.Visiting
+pub use Rattle.core_at_work.specs.Visitor

@@ -3,8 +3,8 @@ use Rattle.std.specs.Prelude.{◌≡◌, ℕ, [], ◌∷◌, ◌++◌, Result, O
 use Rattle.core_machine.specs.Standing.{IsAt}
 use Rattle.core_machine.specs.declared.machine.Machine.{Machine}
 use Rattle.event_journal.specs.Journal.{copied_bytes}
-use Rattle.kernel_entry.specs.Visiting.{coming_of}
-use Rattle.kernel_entry.specs.declared.visitor.Visitor.{Visitor}
+use Rattle.core_at_work.specs.Visiting.{coming_of}
+use Rattle.core_at_work.specs.Visitor.{Visitor}
 use Rattle.kernel_model.specs.Application.{Booted}
 use Rattle.kernel_state.specs.Entering.{visit_of}
 use Rattle.kernel_state.specs.declared.enter_refusal.EnterRefusal.{EnterRefusal}

@@ -46,6 +46,7 @@ mod serving;
 mod smc;
 mod turns;
 
+pub use core_at_work::{Visitor, core_of, core_on};
 pub use filling::{first_lane, first_lanes};
 pub use laws::{machines_stand, turns_are_taken};
 pub use machine::Machine;

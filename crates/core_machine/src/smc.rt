@@ -1,4 +1,4 @@
-use kernel_entry::Visitor;
+use core_at_work::Visitor;
 use kernel_state::EnterRefusal;
 use smc_abi::Regs;
 

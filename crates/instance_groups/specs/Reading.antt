@@ -8,7 +8,7 @@ use Rattle.group_model.specs.Read as group
 use Rattle.group_model.specs.Read.{noted}
 use Rattle.instance_groups.specs.Noted.{AreNoted, listing}
 use Rattle.instance_groups.specs.declared.log_reader.LogReader.{LogReader}
-use Rattle.journal_replay.specs.Replaying as replay
+use Rattle.journal_notes.specs.Replaying as replay
 use Rattle.kernel_model.specs.Application.{Application, Booted}
 use Rattle.kernel_model.specs.Instances.{app_of}
 use Rattle.kernel_state.specs.Setup.{application_of}

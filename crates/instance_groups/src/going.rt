@@ -1,7 +1,7 @@
 //! What is noted of a processor that goes out.
 ghost use Rattle.std.specs.Prelude.{◌≡◌, ◌<◌, IfOk, Some, slice_get};
 ghost use Rattle.std.specs.Option.{option_and_then};
-ghost use Rattle.core_at_work.specs.Insides.{IsInside};
+ghost use Rattle.journal_notes.specs.Insides.{IsInside};
 ghost use Rattle.instance_groups.specs.Noted.{has_succeeded, opened_by, opened_so};
 ghost use Rattle.instance_groups.specs.Meaning.{IsExitNoted};
 ghost use Rattle.isolation.specs.Replaying.{errand_at};
@@ -12,9 +12,9 @@ use crate::arriving::is_open;
 use crate::notes::Notes;
 use base::NoMemory;
 use boxed::Boxed;
-use core_at_work::CoreAtWork;
 use isolation::{left_in, told_at_end};
 use job_model::CallKind;
+use journal_notes::CoreAtWork;
 use kernel_state::Carried;
 use ns_ram::Lane;
 use own_model::OwnReply;

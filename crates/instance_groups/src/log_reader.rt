@@ -1,6 +1,6 @@
 //! The log of a group, read off the events of a journal one after the other.
 ghost use Rattle.std.specs.Prelude.{◌≡◌, ◌≤◌, ◌^◌, [], ◌∷◌, ◌++◌, IfOk};
-ghost use Rattle.core_at_work.specs.Booting.{IsApart};
+ghost use Rattle.journal_notes.specs.Booting.{IsApart};
 ghost use Rattle.event_journal.specs.Journal.{copied_bytes};
 ghost use Rattle.instance_groups.specs.Reading.{IsReader, IsReading, Reads, events_of};
 ghost use Rattle.kernel_model.specs.Application.{booted};
@@ -11,8 +11,7 @@ use crate::group_log::BoxedEntry;
 use crate::notes::Notes;
 use base::NoMemory;
 use event_journal::Event;
-use journal_notes::read;
-use journal_replay::Replay;
+use journal_notes::{Replay, read};
 use kernel_state::Application;
 use native_tas::Natives;
 use std::alloc::Global;

@@ -5,8 +5,8 @@ use Rattle.std.proofs.lemmas.Slice.Eq.{bytes_eq-Decides}
 use Rattle.std.specs.Prelude.{IsTrue, not, ◌||◌}
 use Rattle.std.specs.List.{list_any}
 use Rattle.std.specs.Str.{bytes_eq}
-use Rattle.core_at_work.proofs.Apart as limits
-use Rattle.core_at_work.specs.Booting.{IsApart}
+use Rattle.journal_notes.proofs.Apart as limits
+use Rattle.journal_notes.specs.Booting.{IsApart}
 use Rattle.kernel_model.specs.Application.{AreNatives, Booted, BuiltIn, IsBooted, Native, OfImage, booted}
 use Rattle.kernel_state.specs.Booting.{IsWithinLimits, has_uuid}
 use Rattle.ta_isa.specs.Boots.{IsBoot}

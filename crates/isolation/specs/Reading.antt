@@ -6,7 +6,7 @@ use Rattle.base.specs.declared.no_memory.NoMemory.{NoMemory}
 use Rattle.event_journal.specs.declared.event.Event.{Event}
 use Rattle.isolation.specs.Noted.{AreNoted, listing}
 use Rattle.isolation.specs.declared.log_reader.LogReader.{LogReader}
-use Rattle.journal_replay.specs.Replaying as replay
+use Rattle.journal_notes.specs.Replaying as replay
 use Rattle.kernel_model.specs.Application.{Booted}
 use Rattle.own_model.specs.Own as own
 use Rattle.own_model.specs.Own.{noted}

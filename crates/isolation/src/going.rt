@@ -1,7 +1,7 @@
 //! What is noted of a processor that goes out.
 ghost use Rattle.std.specs.Prelude.{◌≡◌, ◌<◌, IfOk, Some, slice_get};
 ghost use Rattle.std.specs.Option.{option_copied};
-ghost use Rattle.core_at_work.specs.Insides.{IsInside};
+ghost use Rattle.journal_notes.specs.Insides.{IsInside};
 ghost use Rattle.isolation.specs.Meaning.{IsExitNoted};
 ghost use Rattle.isolation.specs.Replaying.{errand_at, left_at};
 ghost use Rattle.kernel_state.specs.Meaning.{terms_of};
@@ -10,8 +10,8 @@ ghost use Rattle.kernel_state.specs.declared.processor.Errand.TheVariants.{InSlo
 use crate::leaving::told_at_end;
 use crate::notes::Notes;
 use base::NoMemory;
-use core_at_work::CoreAtWork;
 use frame_pool::Pages;
+use journal_notes::CoreAtWork;
 use ns_ram::Lane;
 use rpc_cont::Cont;
 use std::alloc::Global;

@@ -1,7 +1,7 @@
 //! The log of a session, read off the events of a journal one after the other.
 ghost use Rattle.std.specs.Prelude.{◌≡◌, ◌≤◌, ◌^◌, [], ◌∷◌, ◌++◌, IfOk};
 ghost use Rattle.std.specs.Option.{option_and_then, option_map};
-ghost use Rattle.core_at_work.specs.Booting.{IsApart};
+ghost use Rattle.journal_notes.specs.Booting.{IsApart};
 ghost use Rattle.event_journal.specs.Journal.{copied_bytes};
 ghost use Rattle.isolation.specs.Reading.{IsReading, IsReadingOf, Reads, boot_of, events_of};
 ghost use Rattle.kernel_model.specs.Application.{booted};
@@ -16,8 +16,7 @@ use crate::notes::Notes;
 use crate::session_log::BoxedEntry;
 use base::NoMemory;
 use event_journal::Event;
-use journal_notes::read;
-use journal_replay::Replay;
+use journal_notes::{Replay, read};
 use kernel_state::Application;
 use native_tas::Natives;
 use std::alloc::Global;

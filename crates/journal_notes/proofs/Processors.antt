@@ -2,9 +2,9 @@
 use Rattle.std.proofs.Common.{◌<◌, arith}
 use Rattle.std.proofs.Math.Logic.{∥∥₁_elim}
 use Rattle.std.proofs.Props.{props}
-use Rattle.kernel_entry.proofs.Arrived.{cpu_there}
-use Rattle.kernel_entry.specs.Visiting.{coming_of}
-use Rattle.kernel_entry.specs.declared.visitor.Visitor.{Visitor}
+use Rattle.journal_replay.proofs.Arrived.{cpu_there}
+use Rattle.journal_replay.specs.Visiting.{coming_of}
+use Rattle.journal_replay.specs.Visitor.{Visitor}
 use Rattle.kernel_state.specs.Entering.{CanEnter}
 use Rattle.kernel_state.specs.Replay.{Replays}
 use Rattle.kernel_state.specs.declared.kernel_core.Core.{Core}

@@ -29,6 +29,7 @@ mod noting;
 mod reading;
 
 pub use base::NoMemory;
+pub use journal_replay::{CoreAtWork, Replay};
 pub use logged::{BoxedEntry, Logged, events_in, replies_in};
 pub use notes::EventNotes;
 pub use reading::{read, read_all};

@@ -1,11 +1,11 @@
 //! What notes of somebody can do.
 ghost use Rattle.std.specs.Prelude.{◌≡◌, ◌<◌, ◌++◌, ◌∷◌, [], ℕ, List, Option, IfOk};
-ghost use Rattle.core_at_work.specs.Insides.{IsInside};
+ghost use Rattle.journal_replay.specs.Insides.{IsInside};
 ghost use Rattle.event_journal.specs.declared.event.Event.{Event as AnyEvent};
 ghost use Rattle.event_journal.specs.declared.event.Event.TheVariants.{Entry};
 ghost use Rattle.journal_notes.specs.Meaning.{AreKept, Goes, HasTaken, IsExitNoted, IsNoted, Meaning, same_subject};
-ghost use Rattle.kernel_entry.specs.Entering.{IsPrepared, WasPrepared};
-ghost use Rattle.kernel_entry.specs.Visiting.{coming_of};
+ghost use Rattle.journal_replay.specs.Entering.{IsPrepared, WasPrepared};
+ghost use Rattle.journal_replay.specs.Visiting.{coming_of};
 ghost use Rattle.kernel_state.specs.Entering.{HasEntered};
 ghost use Rattle.kernel_state.specs.Leaving.{CanLeave};
 ghost use Rattle.kernel_state.specs.Meaning.{events_of, terms_of};
@@ -16,8 +16,7 @@ ghost use Rattle.ns_ram.specs.declared.read.Read.{Read as AnyRead};
 
 use crate::logged::BoxedEntry;
 use base::NoMemory;
-use core_at_work::CoreAtWork;
-use kernel_entry::{Prepared, Visitor};
+use journal_replay::{CoreAtWork, Prepared, Visitor};
 use kernel_state::{Core, Ran};
 use ns_ram::Lane;
 use smc_abi::Regs;

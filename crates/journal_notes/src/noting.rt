@@ -4,15 +4,14 @@ ghost use Rattle.event_journal.specs.Journal.{copied_bytes};
 ghost use Rattle.event_journal.specs.declared.event.Event.TheVariants.{Entry, Exit};
 ghost use Rattle.journal_notes.specs.Meaning.{AreKept, AreOn, IsNoted, IsNotedWithRoom, same_subject};
 ghost use Rattle.journal_replay.specs.Replaying.{Does, HasDone, done_by};
-ghost use Rattle.kernel_entry.specs.Entering.{WasPrepared};
-ghost use Rattle.kernel_entry.specs.Visiting.{coming_of};
+ghost use Rattle.journal_replay.specs.Entering.{WasPrepared};
+ghost use Rattle.journal_replay.specs.Visiting.{coming_of};
 ghost use Rattle.kernel_state.specs.Entering.{CanEnter};
 
 use crate::notes::EventNotes;
 use base::NoMemory;
 use event_journal::Event;
-use journal_replay::{Replay, last_has_left};
-use kernel_entry::{Prepared, Visitor};
+use journal_replay::{Prepared, Replay, Visitor, last_has_left};
 use ns_ram::Read;
 use smc_abi::Regs;
 use std::alloc::Global;

@@ -15,13 +15,13 @@ use Rattle.journal_replay.specs.Laying.{AreOfOneRam}
 use Rattle.journal_replay.specs.Replaying.{CanBeNext, HasDone, HasPrepared, boot_of, done_by}
 use Rattle.journal_replay.specs.declared.replay.Replay.{Replay}
 use Rattle.journal_replay.proofs.Next.{kernel_now, next_agrees, next_kernel, next_reads_ram}
-use Rattle.kernel_entry.proofs.Arrived.{can_enter_with_room}
-use Rattle.kernel_entry.proofs.Replaying as decided
-use Rattle.kernel_entry.specs.Deciding.{decision_as}
-use Rattle.kernel_entry.specs.Entering.{HasMoreRoom, IsPrepared}
-use Rattle.kernel_entry.specs.Visiting.{coming_of}
-use Rattle.kernel_entry.specs.declared.preparing.Prepared.{Prepared}
-use Rattle.kernel_entry.specs.declared.visitor.Visitor.{Visitor}
+use Rattle.core_at_work.proofs.Arrived.{can_enter_with_room}
+use Rattle.core_at_work.proofs.Replaying as decided
+use Rattle.core_at_work.specs.Deciding.{decision_as}
+use Rattle.core_at_work.specs.Entering.{HasMoreRoom, IsPrepared}
+use Rattle.core_at_work.specs.Visiting.{coming_of}
+use Rattle.core_at_work.specs.Prepared.{Prepared}
+use Rattle.core_at_work.specs.Visitor.{Visitor}
 use Rattle.kernel_model.specs.Application.{Booted}
 use Rattle.kernel_model.specs.Entry.{entry}
 use Rattle.kernel_model.specs.Kernel.{Kernel, Outside, Visit}

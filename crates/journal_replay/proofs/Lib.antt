@@ -4,3 +4,7 @@ pub mod Next
 pub mod Entered
 pub mod Left
 pub mod Compared
+pub use Rattle.core_at_work.proofs.Apart
+pub use Rattle.core_at_work.proofs.Arrived
+pub use Rattle.core_at_work.proofs.Kept
+pub use Rattle.core_at_work.proofs.Worked

@@ -1,3 +1,10 @@
 pub mod Laying
 pub mod Replaying
 pub mod Laws
+pub use Rattle.core_at_work.specs.Booting
+pub use Rattle.core_at_work.specs.Entering
+pub use Rattle.core_at_work.specs.Insides
+pub use Rattle.core_at_work.specs.Prepared
+pub use Rattle.core_at_work.specs.Visiting
+pub use Rattle.core_at_work.specs.Visitor
+pub use Rattle.core_at_work.specs.declared.core_at_work.CoreAtWork

@@ -5,9 +5,9 @@ use Rattle.audit_model.specs.Verdicts.{IsFaultless}
 use Rattle.event_journal.specs.declared.event.Event.{Event}
 use Rattle.event_journal.specs.declared.event.Event.TheVariants.{Entry}
 use Rattle.journal_replay.specs.declared.replay.Replay.{Replay}
-use Rattle.kernel_entry.specs.Entering.{HasMoreRoom, IsPrepared}
-use Rattle.kernel_entry.specs.declared.preparing.Prepared.{Prepared}
-use Rattle.kernel_entry.specs.declared.visitor.Visitor.{Visitor}
+use Rattle.core_at_work.specs.Entering.{HasMoreRoom, IsPrepared}
+use Rattle.core_at_work.specs.Prepared.{Prepared}
+use Rattle.core_at_work.specs.Visitor.{Visitor}
 use Rattle.kernel_model.specs.Application.{Booted}
 use Rattle.kernel_state.specs.Meaning.{booted_of, events_of}
 use Rattle.ns_ram.specs.declared.read.Read.{Read}

@@ -30,6 +30,7 @@ mod replay;
 
 pub use base::NoMemory;
 pub use comparing::last_has_left;
+pub use core_at_work::{CoreAtWork, Prepared, Visitor};
 pub use laws::replays_are_faultless;
 pub use laying::lay;
 pub use replay::Replay;

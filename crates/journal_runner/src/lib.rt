@@ -45,3 +45,4 @@ pub use comparing::Compare;
 pub use examples::worked_examples;
 pub use laws::{journals_have_answers, recorded_is_audited_legal};
 pub use recording::Record;
+pub use session_compare::{Compared, ReadJournal, compare, compare_groups};

@@ -11,12 +11,11 @@ ghost use Rattle.trace_text.specs.declared.trace.Trace.{Trace};
 
 use audit::core_journals_are_sound;
 use base::NoMemory;
-use core_machine::machines_stand;
 use journal_bytes::write_journal;
 use native_tas::Natives;
 use std::alloc::Global;
 use ta_isa::Boot;
-use trace_player::Player;
+use trace_player::{Player, machines_stand};
 use trace_text::{Fill, Item};
 use word_parts::{Status, Stop};
 

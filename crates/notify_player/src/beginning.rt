@@ -14,7 +14,7 @@ ghost use Rattle.trace_text.specs.Sound.{IsSoundBoot, IsSoundFill};
 
 use crate::player::NotifyPlayer;
 use base::NoMemory;
-use core_at_work::{core_of, core_on};
+use core_machine::{core_of, core_on};
 use kernel_state::Core;
 use native_tas::Natives;
 use notif::Desk;

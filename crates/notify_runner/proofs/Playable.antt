@@ -8,7 +8,7 @@ use Rattle.std.proofs.lemmas.Grind.{flat_map-append}
 use Rattle.std.proofs.lemmas.List.{append-nil}
 use Rattle.std.proofs.lemmas.List.Elements.{recursion_from_All}
 use Rattle.base.specs.Zeros.{zeros}
-use Rattle.core_machine.specs.Laws.{MachinesStand}
+use Rattle.trace_player.specs.Laws.{MachinesStand}
 use Rattle.kernel_model.specs.Application.{Booted, IsBooted, Native, booted}
 use Rattle.kernel_model.proofs.Parts.{some_of}
 use Rattle.notif.specs.Desk.{DeskState, IsDeskOf}

@@ -8,13 +8,13 @@ ghost use Rattle.word_parts.specs.Faults.{StopTellsFaults};
 ghost use Rattle.notify_runner.specs.Run.{IsToldOf};
 ghost use Rattle.notify_runner.specs.Starting.{IsAtStart};
 
-use core_machine::machines_stand;
 use native_tas::Natives;
 use notif::desks_keep_their_drivers;
 use notify_player::NotifyPlayer;
 use notify_text::Signal;
 use ports::Sink;
 use std::alloc::Global;
+use trace_player::machines_stand;
 use trace_text::Item;
 use word_parts::{Stop, end_at, put_if_many, put_lines};
 

@@ -9,7 +9,7 @@ use Rattle.instance_groups.proofs.ReadOn.{none_read}
 use Rattle.instance_groups.specs.Reading as group
 use Rattle.instance_groups.specs.Reading.{IsReader, IsReadingOf, group_app}
 use Rattle.instance_groups.specs.declared.log_reader.LogReader.{LogReader}
-use Rattle.journal_replay.proofs.Next.{replays_are_faultless}
+use Rattle.audit.proofs.Next.{replays_are_faultless}
 use Rattle.kernel_model.specs.Application.{Booted}
 use Rattle.kernel_model.specs.Instances.{app_of}
 use Rattle.kernel_state.specs.Setup.{application_of}

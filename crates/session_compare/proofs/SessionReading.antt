@@ -8,7 +8,7 @@ use Rattle.isolation.proofs.ReadOn.{none_read}
 use Rattle.isolation.specs.Reading as session
 use Rattle.isolation.specs.Reading.{IsReadingOf}
 use Rattle.isolation.specs.declared.log_reader.LogReader.{LogReader}
-use Rattle.journal_replay.proofs.Next.{replays_are_faultless}
+use Rattle.audit.proofs.Next.{replays_are_faultless}
 use Rattle.kernel_model.specs.Application.{Booted}
 use Rattle.own_model.specs.Own.{Logged}
 use Rattle.session_compare.specs.Reading.{IsBegun, Reads}

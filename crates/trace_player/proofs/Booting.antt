@@ -1,7 +1,7 @@
 -- What is within the limits of boots can be booted, beside built-in applications that are few and apart.
 use Rattle.std.proofs.Common.{◌≢◌, ℕ, ◌≤◌, List, length, None, refl, sym}
 use Rattle.std.specs.Prelude.{AllPairs}
-use Rattle.core_at_work.proofs.Apart.{none_repeated}
+use Rattle.core_machine.proofs.Apart.{none_repeated}
 use Rattle.kernel_model.specs.Application.{IsBooted, Native, booted}
 use Rattle.kernel_state.proofs.Apart.{natives_if_none}
 use Rattle.ta_isa.specs.declared.boot.Boot.{Boot}

@@ -2,7 +2,7 @@
 use Rattle.std.proofs.Common.{◌≡◌, ℕ, List, ◌++◌, Option, Some, None, refl, sym, ap, subst, ◌∙◌}
 use Rattle.std.specs.Prelude.{Result, Ok, Err, IfErr}
 use Rattle.std.specs.Option.{option_and_then, option_map, option_map_or}
-use Rattle.core_at_work.specs.Panics.{panic_of}
+use Rattle.core_machine.specs.Panics.{panic_of}
 use Rattle.kernel_model.specs.Application.{Booted}
 use Rattle.play_model.specs.Line.{Line}
 use Rattle.play_model.specs.Play.{Play}

@@ -24,10 +24,10 @@ use Rattle.trace_player.specs.Playing.{CanBeTold, CanGoOut, Prints}
 use Rattle.trace_player.specs.Position.{Position, StandsAt, visit_at}
 use Rattle.word_parts.specs.Stop.{stop_of}
 use Rattle.core_machine.specs.Standing.{CanCome, IsAt, play_of}
-use Rattle.core_at_work.specs.Insides.{insides}
-use Rattle.core_at_work.specs.Panics.{panic_of}
+use Rattle.core_machine.specs.Insides.{insides}
+use Rattle.core_machine.specs.Panics.{panic_of}
 use Rattle.core_machine.specs.Turns.{ComeInTurn, MayCome}
-use Rattle.kernel_entry.specs.Visiting.{coming_of}
+use Rattle.core_machine.specs.Visiting.{coming_of}
 use Rattle.core_machine.specs.declared.machine.Machine.{Machine}
 use Rattle.trace_player.specs.declared.exit.Exit.{Exit}
 use Rattle.trace_player.specs.declared.player.Player.{Player}
@@ -35,7 +35,7 @@ use Rattle.word_parts.specs.declared.stop.Stop.{Stop}
 use Rattle.word_parts.specs.declared.stop.Stop.TheVariants.{Full, Failed, Memory}
 use Rattle.core_machine.specs.declared.smc.Smc.{Smc}
 use Rattle.core_machine.specs.declared.smc.Smc.TheVariants.{Comes, Leaves}
-use Rattle.kernel_entry.specs.declared.visitor.Visitor.{Visitor}
+use Rattle.core_machine.specs.Visitor.{Visitor}
 use Rattle.trace_player.proofs.Played.{enters-lines, one-line}
 use Rattle.word_parts.proofs.Worded.{some-and}
 

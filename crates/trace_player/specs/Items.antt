@@ -1,7 +1,7 @@
 -- An item, and the same up to where a processor goes out by it: what a play comes to then, before that processor is told anything.
 use Rattle.std.specs.Prelude.{◌≡◌, ℕ, List, [], ◌∷◌, ◌++◌, Option, None, Some, Result, Ok, Err}
 use Rattle.std.specs.Option.{option_and_then, option_map, option_map_or}
-use Rattle.core_at_work.specs.Panics.{panic_of}
+use Rattle.core_machine.specs.Panics.{panic_of}
 use Rattle.core_machine.specs.Serving.{line_of}
 use Rattle.core_machine.specs.declared.smc.Told.{Told}
 use Rattle.kernel_model.specs.Application.{Booted}

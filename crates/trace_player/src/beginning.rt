@@ -12,8 +12,7 @@ ghost use Rattle.trace_player.specs.Starting.{uuids_of};
 
 use crate::player::Player;
 use base::NoMemory;
-use core_at_work::{core_of, core_on};
-use core_machine::Machine;
+use core_machine::{Machine, core_of, core_on};
 use kernel_state::{Core, Terms};
 use native_tas::Natives;
 use std::alloc::Global;

@@ -27,5 +27,6 @@ mod exit;
 mod player;
 
 pub use beginning::COUNTED;
+pub use core_machine::machines_stand;
 pub use exit::Exit;
 pub use player::{MAX_CPUS, Player};

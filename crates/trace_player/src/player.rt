@@ -1,6 +1,6 @@
 //! A core with its processors, and what each of them was last told.
 ghost use Rattle.std.specs.Prelude.{◌≡◌, ◌<◌, ◌++◌, [], ◌∷◌, Err, IfErr, IfOk, IfSome, IsTrue, OnOk, Some, length, slice_get};
-ghost use Rattle.core_at_work.specs.Panics.{panic_of};
+ghost use Rattle.core_machine.specs.Panics.{panic_of};
 ghost use Rattle.kernel_model.specs.Application.{Booted};
 ghost use Rattle.kernel_state.specs.Meaning.{booted_of};
 ghost use Rattle.ns_ram.specs.Lane.{IsInRam, bytes_at};
@@ -13,9 +13,8 @@ ghost use Rattle.trace_player.specs.Position.{AreTold, Position, StandsAt, told_
 
 use crate::exit::Exit;
 use answer_lines::{push_mem, push_ret, registers};
-use core_machine::{Machine, Told, machines_stand, turns_are_taken};
+use core_machine::{Machine, Told, Visitor, machines_stand, turns_are_taken};
 use event_journal::Journal;
-use kernel_entry::Visitor;
 use smc_abi::Regs;
 use std::alloc::Global;
 use trace_text::{Item, Reg};

@@ -18,7 +18,8 @@
 mod threads;
 mod top_call;
 
-pub use alone_runner::{AtEnd, LONGEST_INPUT, Status, run_alone};
-pub use session_compare::{Compared, ReadJournal, compare, compare_groups};
+pub use alone_runner::{
+    AtEnd, Compared, LONGEST_INPUT, ReadJournal, Status, compare, compare_groups, run_alone,
+};
 pub use top_call::run;
 pub use word_parts::worked_examples;

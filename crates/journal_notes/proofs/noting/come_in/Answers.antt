@@ -1,8 +1,8 @@
 -- A visitor that can come in is prepared, and let in.
 use Rattle.std.proofs.Common.{◌≤◌, ◌^◌, List, [], ◌∷◌, ◌++◌, subst, sym}
 use Rattle.std.specs.Prelude.{Ok, false}
-use Rattle.core_at_work.proofs.Kept.{with_room}
-use Rattle.core_at_work.specs.declared.core_at_work.CoreAtWork.{CoreAtWork}
+use Rattle.journal_replay.proofs.Kept.{with_room}
+use Rattle.journal_replay.specs.CoreAtWork.{CoreAtWork}
 use Rattle.event_journal.specs.Journal.{copied_bytes}
 use Rattle.journal_notes.proofs.ReadOn.{kept_before}
 use Rattle.journal_notes.specs.Meaning.{IsNoted}

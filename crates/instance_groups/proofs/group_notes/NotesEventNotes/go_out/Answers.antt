@@ -1,7 +1,7 @@
 -- What the processor came for.
 use Rattle.std.proofs.Common.{◌≡◌, ℕ, Some, None, subst}
 use Rattle.std.specs.Prelude.{slice_get}
-use Rattle.core_at_work.proofs.Worked.{kept_in}
+use Rattle.journal_notes.proofs.Worked.{kept_in}
 use Rattle.instance_groups.specs.Meaning.{IsExitNoted}
 use Rattle.instance_groups.proofs.GoneOut.{exit_answered}
 use Rattle.isolation.specs.Replaying.{errand_at}

@@ -3,7 +3,7 @@ use Rattle.std.specs.Option.{option_map}
 use Rattle.event_journal.specs.declared.event.Event.{Event}
 use Rattle.group_model.specs.Read.{noted}
 use Rattle.instance_groups.specs.Noted.{AreNoted, listing}
-use Rattle.journal_replay.specs.Replaying.{boot_of}
+use Rattle.journal_notes.specs.Replaying.{boot_of}
 use Rattle.kernel_model.specs.Application.{Booted}
 use Rattle.kernel_model.specs.Instances.{app_of}
 use Rattle.kernel_state.specs.Setup.{application_of}

@@ -1,7 +1,7 @@
 use Rattle.std.proofs.Common.{List, [], subst, sym}
 use Rattle.event_journal.specs.declared.event.Event.{Event}
 use Rattle.isolation.specs.Noted.{AreNoted, listing}
-use Rattle.journal_replay.specs.Replaying.{boot_of}
+use Rattle.journal_notes.specs.Replaying.{boot_of}
 use Rattle.own_model.specs.Own.{noted}
 use Rattle.isolation.proofs.log_reader.LogReader.new.Goals as goal
 

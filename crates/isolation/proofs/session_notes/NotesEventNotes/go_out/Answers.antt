@@ -1,7 +1,7 @@
 -- What the processor came for.
 use Rattle.std.proofs.Common.{◌≡◌, ℕ, Some, None, subst, sym}
 use Rattle.std.specs.Prelude.{IfOk, slice_get}
-use Rattle.core_at_work.proofs.Worked.{kept_in}
+use Rattle.journal_notes.proofs.Worked.{kept_in}
 use Rattle.isolation.specs.Noted.{AreNoted}
 use Rattle.isolation.specs.Meaning.{IsExitNoted}
 use Rattle.isolation.specs.Replaying.{errand_at}

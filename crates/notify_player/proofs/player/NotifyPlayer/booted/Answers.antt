@@ -1,6 +1,6 @@
 -- A sound boot is one of which a core can be made.
 use Rattle.std.specs.Prelude.{map}
-use Rattle.core_at_work.proofs.Apart.{none_repeated, within_limits}
+use Rattle.core_machine.proofs.Apart.{none_repeated, within_limits}
 use Rattle.kernel_model.specs.Application.{Native}
 use Rattle.native_tas.specs.Table.{entries}
 use Rattle.notify_player.proofs.player.NotifyPlayer.booted.Goals as goal

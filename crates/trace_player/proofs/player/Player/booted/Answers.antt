@@ -1,5 +1,5 @@
 -- A sound boot is one of which a core can be made.
-use Rattle.core_at_work.proofs.Apart.{none_repeated, within_limits}
+use Rattle.core_machine.proofs.Apart.{none_repeated, within_limits}
 use Rattle.native_tas.specs.Table.{entries}
 use Rattle.trace_player.specs.Starting.{uuids_of}
 use Rattle.trace_player.proofs.player.Player.booted.Goals as goal

@@ -1,6 +1,6 @@
 use Rattle.std.proofs.Common.{◌<◌, sym, subst}
 use Rattle.std.proofs.lemmas.Result.{err_from_is_err_and}
-use Rattle.kernel_entry.specs.declared.visitor.Visitor.{Visitor}
+use Rattle.core_machine.specs.Visitor.{Visitor}
 use Rattle.kernel_model.specs.Application.{Booted}
 use Rattle.trace_player.proofs.Moved.{came-in, goes-in, same-visit, stayed-out}
 use Rattle.trace_player.proofs.player.Player.enter.Goals as goal
