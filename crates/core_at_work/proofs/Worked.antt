@@ -4,12 +4,10 @@ use Rattle.std.proofs.lemmas.Option.{slice_get_read}
 use Rattle.std.specs.Prelude.{Result, Ok, Err, slice_get, slice_set}
 use Rattle.std.specs.Option.{is_some, option_and_then, option_map}
 use Rattle.core_at_work.specs.Insides.{IsInside, IsOutside}
-use Rattle.core_at_work.specs.Working.{ComesIn, HasComeIn, SameOutgoing, outgoing_of}
+use Rattle.core_at_work.specs.Working.{ComesIn, SameOutgoing, outgoing_of}
 use Rattle.core_at_work.specs.declared.core_at_work.CoreAtWork.{CoreAtWork}
 use Rattle.core_at_work.proofs.Kept.{own_found}
 use Rattle.core_at_work.proofs.Stand.{Outgoing, found, inside_below, inside_cpu, outside_cpu}
-use Rattle.kernel_entry.proofs.Arrived.{has_entered_with_room}
-use Rattle.kernel_entry.specs.Entering.{HasMoreRoom}
 use Rattle.kernel_entry.specs.Visiting.{coming_of}
 use Rattle.kernel_entry.specs.declared.visitor.Visitor.{Visitor}
 use Rattle.kernel_model.proofs.Parts.{set_other}
@@ -25,19 +23,6 @@ pub refused : (old new : CoreAtWork) (visitor : Visitor) (lane : List ℕ) (why 
     Enters old.core new.core (coming_of visitor) lane (Err why) → SameOutgoing old new → ComesIn old new visitor lane (Err why)
 refused old new visitor lane (Full copied more) is same = (is.0, is.1, same)
 refused old new visitor lane Memory is same = (is, same)
-
--- one that comes in once there is more room has come in
-pub comes_with_room : (old mid new : CoreAtWork) (visitor : Visitor) (lane : List ℕ) → HasMoreRoom old.core.parts mid.core.parts →
-    SameOutgoing old mid → HasComeIn mid new visitor lane → HasComeIn old new visitor lane
-comes_with_room old mid new visitor lane more same come = record {
-  work = come.work;
-  entered = has_entered_with_room old.core mid.core new.core (coming_of visitor) lane come.work more come.entered;
-  ran = come.ran;
-  has_run = come.has_run;
-  kept = come.kept;
-  inside = come.inside;
-  others = λ other apart. come.others other apart ∙ same other;
-}
 
 -- ---- what is put
 

@@ -19,7 +19,7 @@ use crate::booting::core_on;
 use crate::core_at_work::CoreAtWork;
 use crate::went_out::{WentOut, panic_of};
 use base::NoMemory;
-use kernel_entry::{Prepared, Visitor, admit, prepare};
+use kernel_entry::{Prepared, Visitor, admit, enter, prepare};
 use kernel_exit::leave;
 use kernel_state::{Core, EnterRefusal, Ran, Terms};
 use native_tas::Natives;
@@ -151,8 +151,7 @@ impl CoreAtWork {
         self.is_outside(visitor.cpu) && (1..=MOST_STEPS).contains(&visitor.steps)
     }
 
-    /// A processor comes in over the RAM that it sees, and does its granted steps: its entry is prepared, and it is let in. Where it
-    /// is refused the core is as it was.
+    /// A processor comes in over the RAM that it sees, and does its granted steps. Where it is refused the core is as it was.
     pub fn enter(
         &mut self,
         alloc: Global,
@@ -162,8 +161,8 @@ impl CoreAtWork {
         requires { CanEnter self.old.core (coming_of visitor) }
         ensures { ComesIn self.old self.new visitor lane.now result }
     {
-        let prepared = self.prepare(alloc, &visitor, lane)?;
-        self.admit(alloc, visitor, prepared);
+        let work = enter(alloc, &mut self.core, visitor, lane)?;
+        put(&mut self.outgoing[usize::from(visitor.cpu)], work.run());
         Ok(())
     }
 
