@@ -3,9 +3,9 @@
 
 Runs the program for N and for 2N calls, and `cat`, which gives back each line: what pipes and this side cost by themselves. Of
 each it prints turns a second by the clock, and the processor time of the other side for a turn, in its own code and in the system's; and
-last the instructions of a further call, and the bytes that it keeps; with `off`, of a core that keeps no history. Build the program first,
-by `rt run` in crates/optee_live.
-Usage: bench/conversing.py [N [PROGRAM [off]]]
+last the instructions of a further call, and the bytes that it keeps; with `off`, of a core that keeps no history, and with `watch`, where
+each exit is watched. Build the program first, by `rt run` in crates/optee_live.
+Usage: bench/conversing.py [N [PROGRAM [off] [watch]]]
 """
 
 import os
@@ -17,7 +17,7 @@ from callgrind import counted
 from playing import BY_VECTORS
 
 PROGRAM = pathlib.Path(__file__).resolve().parent.parent / "crates/optee_live/out/optee_live"
-BOOT, OFF, CALL = b"boot 1 1 1\n", b"history off\n", b"smc 0 1 bf00ff01 0 0 0 0 0 0 0\n"
+BOOT, OFF, WATCH, CALL = b"boot 1 1 1\n", b"history off\n", b"watch on\n", b"smc 0 1 bf00ff01 0 0 0 0 0 0 0\n"
 
 
 def turns(program, count, front):
@@ -45,7 +45,7 @@ def turns(program, count, front):
 def main():
     count = int(sys.argv[1]) if len(sys.argv) > 1 else 200_000
     program = sys.argv[2] if len(sys.argv) > 2 else str(PROGRAM)
-    front = OFF + BOOT if sys.argv[3:] == ["off"] else BOOT
+    front = OFF * ("off" in sys.argv[3:]) + BOOT + WATCH * ("watch" in sys.argv[3:])
     print(f"processes that wait for a processor, of {os.cpu_count()}: {os.getloadavg()[0]:.0f}")
     kept = []
     for name, number in (("cat", count), (program, count), (program, 2 * count)):
