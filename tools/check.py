@@ -695,7 +695,7 @@ def check_scripts(comparison):
         comparison.same(f"lift.py at {name}", lift.lifted(f"smc 0 1 {name}\n", shipped.SCRIPTS), f"smc 0 1 {digits}{7 * ' 0'}\n")
     for line in expected.BAD_SCRIPTS:
         status, _, said = tool("lift.py", "-", text=f"boot 1 1 1\n{line}\n")
-        comparison.same(f"lift.py at {line}", (status, said.startswith("lift.py: line 2:")), (1, True))
+        comparison.same(f"lift.py at {line}", (status, said.startswith("lift.py: -:2: ")), (1, True))
 
 
 def items(trace):

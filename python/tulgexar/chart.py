@@ -207,17 +207,22 @@ def shows_behind(visit, told):
 
 def played(trace, runner):
     """A trace and its output, with lines `show` of its requests and results."""
-    done = runner.run(["run"], trace)
-    output = done.output
-    refuse_refused(output)
-    if done.status:
-        raise plays.Mismatch(program.wrong_end(runner.file, "optee_run", done.status))
+    output = output_of(trace, runner)
     try:
         plays.lay_out(trace, output)
     except plays.Mismatch as mismatch:
-        raise plays.Mismatch(f"{mismatch}: {runner.file} isn't the program of crates/optee_run") from mismatch
+        raise plays.Mismatch(f"{mismatch.cause}: {runner.file} isn't the program of crates/optee_run", mismatch.place) from mismatch
     shown = with_shows(trace, output)
-    return shown, runner.run(["run"], shown).output
+    return shown, output_of(shown, runner)
+
+
+def output_of(trace, runner):
+    """What the program prints of a trace, which it plays to its end."""
+    done = runner.run(["run"], trace)
+    refuse_refused(done.output)
+    if done.status:
+        raise plays.Mismatch(program.wrong_end(runner.file, "optee_run", done.status))
+    return done.output
 
 
 def refuse_others(trace):
@@ -226,9 +231,9 @@ def refuse_others(trace):
     for place, line in lines:
         word = line.split(" ")[0]
         if word == "signal":
-            raise plays.Mismatch(f"line {place}: a trace with signals isn't drawn: it has no place for them")
+            raise plays.Mismatch("a trace with signals isn't drawn: it has no place for them", place)
         if word in plays.CLIENT_CALLS:
-            raise plays.Mismatch(f"line {place}: a client's script isn't drawn: client_trace.py writes a trace of its calls, which is")
+            raise plays.Mismatch("a client's script isn't drawn: client_trace.py writes a trace of its calls, which is", place)
     for place, line in lines:
         plays.refuse_script(place, line)
 
@@ -243,7 +248,7 @@ def refuse_refused(output):
     """A Mismatch where a play was refused."""
     bad = re.fullmatch(r"bad trace (\d+) (\w+)\n", output)
     if bad:
-        raise plays.Mismatch(f"line {bad[1]}: the trace was refused, {bad[2]}: {plays.fault_of(bad[2])}")
+        raise plays.Mismatch(f"the trace was refused, {bad[2]}: {plays.fault_of(bad[2])}", int(bad[1]))
 
 
 PROCESSORS, SLOTS = 1, 2  # as processes of a viewer
@@ -287,24 +292,33 @@ def main(words):
     trace = text_of(words[0])
     try:
         refuse_others(trace)
-        if len(words) == 1:
-            trace, output = played(trace, program.Program(file))
-        else:
-            output = text_of(words[1])
-        plays.refuse_swapped(trace, output)
-        refuse_refused(output)
-        refuse_none(trace)
-        if not output.startswith("cpu "):
-            plays.lay_out(trace, output)
-        told = story.Story(story.visits_of(trace, output), story.threads_of(trace))
+        trace, output = (trace, text_of(words[1])) if len(words) == 2 else played(trace, program.Program(file))
+        told = told_by(trace, output)
         if viewed:
             write_text(viewed, traced(told))
         else:
             print(chart(told), end="")
-    except (plays.Mismatch, ValueError, IndexError, KeyError) as mismatch:
-        print(f"chart.py: {plain(str(mismatch))}", file=sys.stderr)
-        return 1
+    except plays.Mismatch as mismatch:
+        return refused(mismatch.of_file(words[0]))
+    except (ValueError, IndexError, KeyError) as error:
+        return refused(error)
     return 0
+
+
+def told_by(trace, output):
+    """The story of a trace and its output."""
+    plays.refuse_swapped(trace, output)
+    refuse_refused(output)
+    refuse_none(trace)
+    if not output.startswith("cpu "):
+        plays.lay_out(trace, output)
+    return story.Story(story.visits_of(trace, output), story.threads_of(trace))
+
+
+def refused(error):
+    """Tells why nothing is drawn. The status."""
+    print(f"chart.py: {plain(str(error))}", file=sys.stderr)
+    return 1
 
 
 if __name__ == "__main__":

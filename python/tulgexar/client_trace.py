@@ -19,7 +19,7 @@ import struct
 import sys
 
 from tulgexar import arg, calls, client, formats, lift, live, machine, plays, program
-from tulgexar.words import BadWords, number, plain, refuse_options, run, text_of, uuid
+from tulgexar.words import BadWords, located, number, plain, refuse_options, run, text_of, uuid
 
 ARGUMENT, CANCEL, BUFFER, COOKIE = formats.RAM_START, 0x4000_1000, 0x4001_0000, 1
 MEMORY, MEMORY_BYTES = 0x4010_0000, 0x1_0000  # of parameter 0, and apart from the next
@@ -190,14 +190,15 @@ def refuse_other(words):
 
 
 def play(lines, talk, steps=client.GRANT):
-    """Says the lines of a script, each behind its number, and makes its calls; what is to be said of cancels that have not come."""
+    """Says the lines of a script, each behind its number, and makes its calls. What is to be said of cancels that have not come, each behind the
+    number of its line."""
     played, missed = Client(talk, steps), []
     for place, line, call in read(lines):
         try:
             talk.ask(f"# {line}" if call else line)
             returns = played.call(call) if call else 0
             if call and call.cancel and returns < call.cancel:
-                missed.append(f"line {place}: cancel:{call.cancel} has not come: {call.item} {call.name} had {returns} RPC returns")
+                missed.append((place, f"cancel:{call.cancel} has not come: {call.item} {call.name} had {returns} RPC returns"))
         except BadWords as error:
             raise lift.Fault(str(error), place, line) from error
         except live.Refused as refused:
@@ -224,13 +225,20 @@ def main(words):
     try:
         lines = lift.placed(text, pathlib.Path(words[0]).parent)
         with live.Conversation(talker, heard=shown) as talk:
-            for missed in play(lines, talk, steps):
-                print(f"client_trace.py: {missed}", file=sys.stderr)
+            for place, missed in play(lines, talk, steps):
+                print(f"client_trace.py: {plain(located(missed, place, words[0]))}", file=sys.stderr)
             talk.finish()
-    except (lift.Fault, live.Over, live.NoConversation) as fault:
-        print(f"client_trace.py: {plain(str(fault))}", file=sys.stderr)
-        return 1
+    except lift.Fault as fault:
+        return refused(fault.told(words[0]))
+    except (live.Over, live.NoConversation) as fault:
+        return refused(str(fault))
     return 0
+
+
+def refused(why):
+    """Tells why a script comes to no trace. The status."""
+    print(f"client_trace.py: {plain(why)}", file=sys.stderr)
+    return 1
 
 
 if __name__ == "__main__":

@@ -23,7 +23,7 @@ import struct
 import sys
 
 from tulgexar import arg, formats, image
-from tulgexar.words import BadWords, hexadecimal, lines_of, number, plain, run, text_of
+from tulgexar.words import BadWords, hexadecimal, lines_of, located, number, plain, run, text_of
 
 FUNCTIONS = {name: function for function, name in (formats.FUNCTIONS | formats.NOTIFY_FUNCTIONS).items()}
 ITEMS = [*dict.fromkeys([*formats.LINES, "signal", "open", "invoke", "close"])]
@@ -36,8 +36,12 @@ class Fault(Exception):
     """A line of a script that isn't of its form: its number, or 0 of the whole, and its text, and the cause."""
 
     def __init__(self, cause, place=0, line=""):
-        super().__init__(f"line {place}: {cause}" if place else cause)
+        super().__init__(located(cause, place))
         self.cause, self.place, self.line = cause, place, line
+
+    def told(self, name):
+        """What is said of it in the file of this name."""
+        return located(self.cause, self.place, name)
 
 
 class Script:
@@ -193,7 +197,7 @@ def main(words):
     try:
         print(lifted(text, pathlib.Path(words[0]).parent), end="")
     except Fault as error:
-        print(f"lift.py: {plain(str(error))}", file=sys.stderr)
+        print(f"lift.py: {plain(error.told(words[0]))}", file=sys.stderr)
         return 1
     return 0
 

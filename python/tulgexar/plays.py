@@ -5,7 +5,7 @@ import pathlib
 import re
 
 from tulgexar import calls, formats, lift, messages
-from tulgexar.words import text_of
+from tulgexar.words import located, text_of
 
 # A line of the trace; what it printed, and what that says in words; the name of an answer; the result of a call, as
 # (result, origin), where the line shows one; what is said of a call as it enters.
@@ -21,24 +21,45 @@ RET = r"ret {}((?: [0-9a-f]{{8}}){{8}})"
 
 
 class Mismatch(Exception):
-    """Output that isn't that of the trace. `entries` are those before it."""
+    """Output that isn't that of the trace: the cause, and the number of the trace's line that has it, or 0, whose file may be named.
+    `entries` are those before it."""
 
     entries = ()
+
+    def __init__(self, cause, place=0):
+        super().__init__(cause, place)
+        self.cause, self.place, self.file = cause, place, ""
+
+    def __str__(self):
+        return located(self.cause, self.place, self.file)
+
+    def of_file(self, name):
+        """The same of the trace in the file of this name."""
+        self.file = name
+        return self
 
 
 def of_files(trace, output):
     """The entries of a trace and its output; or of a folder of traces, and what `rt try --cases` has printed for it."""
     folder, printed = pathlib.Path(trace), text_of(output)
     if not folder.is_dir():
-        return lay_out(text_of(trace), printed)
+        return laid_out_file(trace, printed)
     before, *cases = re.split("^== ", printed, flags=re.MULTILINE)
     named = {name: part for name, _, part in (case.partition("\n") for case in cases)}
     if before or set(named) != {file.name for file in folder.iterdir()}:
         raise Mismatch(f"the output isn't a line `== NAME` and what was printed for each file of {trace}")
     entries = []
     for name, part in named.items():
-        entries += [Entry(0, f"== {name}"), *lay_out(text_of(folder / name), part)]
+        entries += [Entry(0, f"== {name}"), *laid_out_file(folder / name, part)]
     return entries
+
+
+def laid_out_file(name, output):
+    """The entries of the trace in a file, and its output."""
+    try:
+        return lay_out(text_of(name), output)
+    except Mismatch as mismatch:
+        raise mismatch.of_file(name)
 
 
 def lay_out(trace, output):
@@ -69,7 +90,7 @@ def item_of_trace(lines):
 def refuse_script(place, line):
     """A Mismatch where a line is one of a script for lift.py."""
     if lift.is_of_script(line):
-        raise Mismatch(f"line {place} is one of a script: lift.py makes a trace of it")
+        raise Mismatch("this line is one of a script: lift.py makes a trace of it", place)
 
 
 def refuse_journal(trace, output):
@@ -234,7 +255,7 @@ class Play:
         try:
             return Entry(number, text, *self.item(number, item, operands, printed))
         except (ValueError, KeyError) as error:
-            raise Mismatch(f"line {number} isn't of its form") from error
+            raise Mismatch("this line isn't of its form", number) from error
 
     def item(self, number, item, operands, printed):
         """What an item has printed, and what that says, as further fields of an Entry."""
@@ -340,9 +361,9 @@ def said_beside(function, a0, a1, a3):
 def take(printed, number, pattern):
     """The match of the next printed line with the pattern; another line is a Mismatch."""
     if not printed:
-        raise Mismatch(f"the output ends before what line {number} prints")
+        raise Mismatch("the output ends before what this line prints", number)
     line = re.fullmatch(pattern, printed[0])
     if not line:
-        raise Mismatch(f"line {number} doesn't print: {printed[0]}")
+        raise Mismatch(f"this line doesn't print: {printed[0]}", number)
     printed.popleft()
     return line

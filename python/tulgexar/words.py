@@ -93,6 +93,13 @@ def refuse_options(words, served):
             raise BadWords(f"{word} isn't served here, or stands twice: the options are {served}")
 
 
+def located(cause, place, name=""):
+    """A cause behind the number of the line that has it, and behind the name of its file where that is known; or alone, at the place 0."""
+    if not place:
+        return cause
+    return f"{name}:{place}: {cause}" if name else f"line {place}: {cause}"
+
+
 def plain(text):
     """A text in which control characters stand as \\xNN, so that no terminal obeys them."""
     return text.translate(CONTROLS)
