@@ -520,7 +520,7 @@ BAD_WORDS = {
     "client_trace.py": ["", "a b", "program=no_such_file README.md", "steps=0 README.md", "steps=x README.md"],
     "known.py": [""],
     "known_live.py": ["x"],
-    "live.py": ["x", "serve serve", "program=no_such_file", "boot=no_such_file", "log=no_such_folder/x"],
+    "live.py": ["x", "serve serve", "program=no_such_file", "boot=no_such_file", "log=no_such_folder/x", "log=", "boot="],
     "live_test.py": ["x", "program=no_such_file", "turns=999", "turns=many"],
     "step.py": ["", "-", "- opens", "- invoke", "- invoke x", "- close vo", "- invoke 0 vi:1", "- open mi:", "- open r16=0"],
 }
@@ -552,6 +552,7 @@ FILES = [
 # Lines of an input that is a script's, and of each the status, what is printed, and what is said.
 PROMPTED = {
     "name N": (1, "", "live.py: line 2: name N: the name N stands for no words\n"),
+    "name N 1\nargument N close 1": (1, "", "live.py: line 3: argument N close 1: line 2 gives the name N already\n"),
     "smc 0 1 CALLS": (1, "", "live.py: line 2: smc 0 1 CALLS: CALLS is no function\n"),
     "smc 0 1 CALLS_UID": (
         0,
@@ -568,6 +569,10 @@ BAD_SCRIPTS = [
     "smc 0 1 RETURN_FROM_RPC thread=last last",
     "write 0 40000000 $nothing",
     "argument a opens",
+    "smc 0 1 CALL_WITH_ARG argument=40000000 argument=40001000",
+    "smc 0 1 CALL_WITH_ARG argument=40000000 buffer=40000000",
+    "smc 0 1 CALL_WITH_REGD_ARG cookie=77 a5=1",
+    "argument a invoke 1 0 id 1 id 2",
     "image a no_such_file",
     "reply 0 40010000 x",
     "smc 0",

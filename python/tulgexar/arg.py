@@ -141,6 +141,8 @@ def options_of(words, names):
     options = {}
     while words and words[0] in names:
         name = words.pop(0)
+        if name in options:
+            raise BadWords(f"{name} stands twice")
         options[name] = take(words, OPTIONS[name], f"{OPERANDS[name]} behind {name}")
     return options
 

@@ -212,7 +212,7 @@ def held(talk, text, found):
             continue
         talk.said.clear()
         try:
-            talk.take(line.removesuffix("\r") if "script" in talk.options else line)
+            talk.take(place, line.removesuffix("\r") if "script" in talk.options else line)
         except BadWords as error:
             failures.append(Failure(place, line, got=[str(error)]))
             continue

@@ -9,7 +9,8 @@ Lines of a script, of which the first three name something and leave nothing in 
     reply CPU ADDRESS WORD..    the lines write for a reply of arg.py, in the buffer at the address
     write CPU ADDRESS text TEXT the bytes of a text
 Operands: argument or buffer, an address (a1 and a2); cookie (a4 and a5); thread (a3); client (a7); a1 to a7. Values are
-hexadecimal, and `last` is what the register was in the processor's last answer. A register that isn't named is 0.
+hexadecimal, and `last` is what the register was in the processor's last answer. A register that isn't named is 0. A name is
+given once in a script, and a register once in a call.
 All other lines are those of a trace, or of a client's script. Comments and empty lines are copied, but for those that begin with ##.
 
 Status: 0, 1 where a line of the script isn't of its form, 2 at other words.
@@ -45,14 +46,15 @@ class Fault(Exception):
 
 
 class Script:
-    """The names of a script, up to a line."""
+    """The names of a script, up to a line: what each stands for, and the number of the line that gives it."""
 
     def __init__(self, folder):
-        self.folder = folder
-        self.names = {}
+        self.folder, self.place = folder, 0
+        self.names, self.given = {}, {}
 
-    def lift(self, line):
-        """The lines of the trace that a line of the script makes."""
+    def lift(self, place, line):
+        """The lines of the trace that a line of the script makes, which has this number."""
+        self.place = place
         if line.startswith("##"):
             return []
         if not line or line.startswith("#"):
@@ -78,7 +80,9 @@ class Script:
     def name(self, name, *words):
         if not words:
             raise BadWords(f"the name {name} stands for no words")
-        self.names[name] = " ".join(words)
+        if name in self.names:
+            raise BadWords(f"line {self.given[name]} gives the name {name} already")
+        self.names[name], self.given[name] = " ".join(words), self.place
         return []
 
     def argument(self, name, *words):
@@ -128,21 +132,27 @@ def call(cpu, steps, function, *operands):
         raise BadWords(f"{function} is no function")
     if len(operands) == 7 and not any(is_named(operand) for operand in operands):
         return [cpu, steps, a0, *operands]
-    registers, seen = [a0] + ["0"] * 7, set()
+    registers, given = [a0] + ["0"] * 7, {}
     for operand in operands:
         name, _, value = operand.partition("=")
         if name not in OPERANDS:
             raise BadWords(f"{name} is no operand: they are {', '.join(OPERANDS)}")
-        if name in seen:
-            raise BadWords(f"{name} stands twice")
-        seen.add(name)
         register = OPERANDS[name]
+        refuse_given(name, range(register, register + (2 if name in WIDE else 1)), given)
         if name in WIDE:
             wide = hexadecimal(value)
             registers[register : register + 2] = f"{wide >> 32:x}", f"{wide & 0xFFFFFFFF:x}"
         else:
             registers[register] = f"={register}" if value == "last" else f"{hexadecimal(value, 32):x}"
     return [cpu, steps, *registers]
+
+
+def refuse_given(name, registers, given):
+    """Refuses an operand that stands twice, or gives a register that another one has given; `given` has the operand of each register."""
+    for register in registers:
+        if register in given:
+            raise BadWords(f"{name} stands twice" if given[register] == name else f"{given[register]} and {name} both give a{register}")
+        given[register] = name
 
 
 def is_of_script(line):
@@ -178,7 +188,7 @@ def placed(text, folder):
     lines = []
     for place, line in enumerate(lines_of(text), 1):
         try:
-            lines += [(place, made) for made in script.lift(line.removesuffix("\r"))]
+            lines += [(place, made) for made in script.lift(place, line.removesuffix("\r"))]
             refuse_unknown(lines[-1][1] if lines else "")
         except BadWords as error:
             raise Fault(str(error), place, line) from error

@@ -459,9 +459,9 @@ class Prompt(Notes):
         self.typed = None
         sys.stdout.flush()
 
-    def take(self, text):
-        """Sends what a line of the reader stands for."""
-        lines = self.script.lift(text) if "script" in self.options else [text]
+    def take(self, place, text):
+        """Sends what a line of the reader stands for, which has this number."""
+        lines = self.script.lift(place, text) if "script" in self.options else [text]
         self.note_image(text.split())
         for line in lines:
             words = line.split(" ")
@@ -540,7 +540,7 @@ class Prompt(Notes):
                 self.talk.boot(described)
             for place, text in enumerate(self.typed_lines(), 1):
                 try:
-                    self.take(text)
+                    self.take(place, text)
                 except (BadWords, Refused) as error:
                     self.refuse(place, text, error)
         except Refused as refused:

@@ -84,8 +84,13 @@ class Program:
 
 
 def taken_from(words, name="program"):
-    """The file that a word `program=FILE` names, which is taken away, or None; likewise by another name."""
+    """The file that a word `program=FILE` names, which is taken away, or None; likewise by another name. It stands once, and isn't empty."""
     named = [word for word in words if word.startswith(f"{name}=")]
     for word in named:
         words.remove(word)
-    return named[-1].partition("=")[2] if named else None
+    if len(named) > 1:
+        raise BadWords(f"{name}= stands twice")
+    value = named[0].partition("=")[2] if named else None
+    if value == "":
+        raise BadWords(f"nothing stands behind {name}=")
+    return value

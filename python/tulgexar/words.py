@@ -83,6 +83,8 @@ def behind(words, option, what="a file"):
     if at + 1 == len(words):
         raise BadWords(f"{what} is wanted behind {option}, and no word is left")
     del words[at]
+    if not words[at]:
+        raise BadWords(f"{what} is wanted behind {option}, and the word there is empty")
     return words.pop(at)
 
 
