@@ -564,6 +564,10 @@ def check_runner(comparison):
         comparison.same(f"bench_test.py at another result, {number}", said and (said.place, said.differs[:8]), (number, "result: "))
         said = wanted_lines.compared("= nothing", printed)
         comparison.same(f"bench_test.py at another note, {number}", said and said.got, [line, f"= {note}"])
+    for wanted, came, differs in expected.OTHER_NOTES:
+        printed = wanted_lines.Printed(1, "", "", came, None, came)
+        said = [wanted_lines.compared(f"{kind} {wanted}", printed) for kind in (wanted_lines.NOTE, wanted_lines.ASKED)]
+        comparison.same(f"bench_test.py at {came} for {wanted}", [one.differs.startswith(differs) for one in said], [True, True])
     with tempfile.TemporaryDirectory() as folder:
         comparison.same("bench_test.py at no test", tool("bench_test.py", known, folder)[0], bench_test.NO_CASE)
     check_threads(comparison)

@@ -560,6 +560,19 @@ PROMPTED = {
         "",
     ),
 }
+# Notes that are wanted, of each one that comes in its place, and what then differs.
+OTHER_NOTES = [
+    ("OK", "OK, capabilities: DYNAMIC_SHM, MEMREF_NULL", "3 parts more came, from `capabilities` on, which `..` at the end would leave out"),
+    ("OK, threads 1", "OK", "1 part fewer came, from `threads 1` on"),
+    ("OK, threads 12..", "OK, threads 1", "threads: 1, not 12"),
+    ("OK", "EBUSY", "EBUSY, not OK"),
+    ("OK, threads 1", "ERESUME: thread 0 is free", "ERESUME, not OK"),
+    ("ret SUCCESS; origin TEE", "ret SUCCESS; origin TRUSTED_APP", "origin: TRUSTED_APP, not TEE"),
+    ("ret SUCCESS; origin TEE", "ret BUSY; origin TRUSTED_APP; session 1", "ret: BUSY, not SUCCESS; origin: TRUSTED_APP, not TEE; 1 part more came, "),
+    ("CMD, cookie 0x77, thread 0", "CMD, cookie 0x77, thread 1", "thread: 1, not 0"),
+    ("ALLOC of 4096 bytes..", "ALLOC of 64 bytes, thread 0", "ALLOC of: 64 bytes, not 4096 bytes"),
+    ("OK ..", "OK, threads 1", "from character 2 on `, threads 1`, not ` ..`"),
+]
 BAD_SCRIPTS = [
     "name",
     "name WITHOUT_WORDS",

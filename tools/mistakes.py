@@ -152,6 +152,8 @@ FILES = {
     "colon.trace": BOOT + COUNTED + "#: GET_THREAD_COUNT\n",
     "spaced_colon.trace": BOOT + COUNTED + "# : GET_THREAD_COUNT\n",
     "rest.trace": BOOT + COUNTED + "#= ..\n",
+    "note.trace": BOOT + COUNTED + "#= = OK\n",
+    "other_note.trace": BOOT + COUNTED + "#= = OK, threads 2\n",
     "rest_note.trace": BOOT + COUNTED + "#= = ..\n",
 }
 EXECUTABLE = ("sleeps", "quiet", "text_program", "babbles", "ends", "legal_killed", "legal_five", "legal_more", "same_killed", "ends_badly", "ends_killed")
@@ -361,7 +363,9 @@ BENCHES = [
     Mistake("bench_test.py: a folder without tests", "bench_test.py program=$RUN no_scripts", 5, r"no_scripts has no test: no name there ends with one of \.trace"),
     Mistake("bench_test.py: a folder whose names have capitals", "bench_test.py program=$RUN capitals", 5, r"capitals has no test: .*\.trace"),
     Mistake("bench_test.py: all kinds of wanted lines", "bench_test.py program=$RUN three.trace", 0, "three.trace: ok, 3 compared"),
-    Mistake("bench_test.py: another call than is wanted", "bench_test.py program=$RUN asked.trace", 1, r"asked.trace:2: smc[\s\S]*wanted : CALLS_UID\n    got    : GET_THREAD_COUNT"),
+    Mistake("bench_test.py: another call than is wanted", "bench_test.py program=$RUN asked.trace", 1, r"asked.trace:2: smc[\s\S]*wanted : CALLS_UID\n    got    : GET_THREAD_COUNT\n    differs: GET_THREAD_COUNT, not CALLS_UID\n"),
+    Mistake("bench_test.py: a note without its end", "bench_test.py program=$RUN note.trace", 1, r"= OK, threads 1\n    differs: 1 part more came, from `threads 1` on, which `\.\.` at the end would leave out\n"),
+    Mistake("bench_test.py: a note with another number", "bench_test.py program=$RUN other_note.trace", 1, r"= OK, threads 1\n    differs: threads: 1, not 2\n"),
     Mistake("bench_test.py: what an entry asks for", "bench_test.py program=$RUN entered.trace", 0, "entered.trace: ok, 2 compared"),
     Mistake("bench_test.py: a kind of wanted line twice", "bench_test.py program=$RUN twice.trace", 1, "twice.trace:4: .*\n.*line 2 has a wanted line of this kind already"),
     Mistake("bench_test.py: a trace with CRLF", "bench_test.py program=$RUN crlf_test.trace", 1, "crlf_test.trace:1: .*\n    got    bad trace, byte: .*CRLF"),

@@ -94,7 +94,7 @@ def compared_note(wanted, printed):
     if fits(note, came or ""):
         return None
     got = told(came, kind) if kind == ASKED else [printed.line, *told(came)]
-    return Failure(printed.place, printed.text, [wanted], got or ["nothing is said of a call here"])
+    return Failure(printed.place, printed.text, [wanted], got or ["nothing is said of a call here"], differing_notes(note, came) if came else "")
 
 
 def fits(wanted, came):
@@ -143,6 +143,46 @@ def differing(wanted, came):
         hint = ", which `..` at the end would leave out" if more > 0 else ""
         named.append(f"{abs(more)} word{'s' if abs(more) > 1 else ''} {'more' if more > 0 else 'fewer'} came{hint}")
     return "; ".join(named)
+
+
+def differing_notes(wanted, came):
+    """What differs between two notes, part by part; of notes that begin with other words, that alone."""
+    front, parts, is_front = parts_of(wanted.removesuffix(REST)), parts_of(came), wanted.endswith(REST)
+    pairs = list(zip(front, parts))
+    if is_front and len(front) <= len(parts) and pairs[-1][1].startswith(front[-1]):
+        pairs.pop()
+    named = [differing_parts(old, new) for old, new in pairs if old.split() != new.split()]
+    if named and pairs[0][0].split()[:1] != pairs[0][1].split()[:1]:
+        return named[0]
+    count, more = abs(len(parts) - len(front)), len(parts) > len(front)
+    if count and not (more and is_front):
+        first, hint = (parts[len(front)], ", which `..` at the end would leave out") if more else (front[len(parts)] or REST, "")
+        named.append(f"{count} part{'s' if count > 1 else ''} {'more' if more else 'fewer'} came, from `{first}` on{hint}")
+    return "; ".join(named) or differing_texts(wanted, came)
+
+
+def parts_of(note):
+    """The parts of a note, between which stand commas, semicolons or colons."""
+    return re.split("[,;:] ", note)
+
+
+def differing_parts(wanted, came):
+    """What differs between two parts of a note, behind the words with which both begin."""
+    old, new = wanted.split(), came.split()
+    same = common_length(old, new)
+    name = " ".join(old[:same])
+    return (f"{name}: " if name else "") + f"{' '.join(new[same:]) or 'nothing'}, not {' '.join(old[same:]) or 'nothing'}"
+
+
+def differing_texts(wanted, came):
+    """Where two notes differ that have the same words in each part."""
+    at = common_length(wanted, came)
+    return f"from character {at} on `{came[at : at + 16]}`, not `{wanted[at : at + 16]}`"
+
+
+def common_length(one, other):
+    """How many words or characters two beginnings have in common."""
+    return next((at for at, pair in enumerate(zip(one, other)) if pair[0] != pair[1]), min(len(one), len(other)))
 
 
 def name_of(word, place):
