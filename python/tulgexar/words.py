@@ -9,7 +9,7 @@ import sys
 if sys.version_info < (3, 10):
     sys.exit(f"Python 3.10 or later is wanted, and this is {sys.version_info[0]}.{sys.version_info[1]}")
 
-CONTROLS = {code: f"\\x{code:02x}" for code in (*range(32), 127) if chr(code) not in "\t\n"}
+CONTROLS = {code: f"\\x{code:02x}" for code in (*range(0x20), *range(0x7F, 0xA0)) if chr(code) not in "\t\n"}  # C0, and DEL with C1
 HELP = ("--help", "-h")
 UNREAD = 128 + signal.SIGPIPE  # the status of a tool whose output nobody reads, as a shell has it
 
