@@ -23,6 +23,7 @@ JOURNAL = (  # of one call, CALLS_UID
     "OTTJ\x01\x01\x01\x01\x00\x20\x00\x01\xff\x00\xbf" + 28 * "\x00" + "\x01\x00\x00\x00\x00\x00\x00\x00"
     "\x21\x00\xe0\xb3\x4f\x38\xe3\x11\xf8\xe7\x02\x00\x63\xaf\x1b\xc5\xd5\xa5" + 16 * "\x00" + "\x7f"
 )
+WIDE_JOURNAL = JOURNAL.replace("\x01\x01\x01\x00", "\x01\xff\x01\x00", 1)  # its boot has too many threads
 
 FILES = {
     "good.trace": BOOT + CALL,
@@ -50,7 +51,7 @@ FILES = {
     "no_text.script": BOOT + "write 0 40000000 text\n",
     "signal.trace": BOOT + "signal 0 1\n",
     "few.trace": BOOT + COUNTED + "#= ret 0 OK 00000001\n",
-    "wide_boot.journal": JOURNAL.replace("\x01\x01\x01\x00", "\x01\xff\x01\x00", 1),
+    "wide_boot.journal": WIDE_JOURNAL,
     "narrow_test.client": "boot 1 1 1\n#= nothing\n",
     "capital.trace": BOOT + CALL + "#= ret 0 384FB3E0 ..\n",
     "blanks.trace": BOOT + CALL + "#= ret 0  384fb3e0 ..\n",
@@ -61,6 +62,9 @@ FILES = {
     "cut.journal": JOURNAL[:40],
     "outside.journal": JOURNAL[:9] + JOURNAL[51:],
     "good.journal": JOURNAL,
+    "second_cut.journals": JOURNAL + JOURNAL[:7],
+    "second_magic.journals": JOURNAL + JOURNAL[:2],
+    "second_tag.journals": JOURNAL + JOURNAL[:9] + "\x7e",
     "empty": "",
     "junk": "\x00\x01\xff\x1b[31mjunk\x07\n",
     "two.journals": JOURNAL + JOURNAL,
@@ -200,6 +204,9 @@ ANNOTATE = [
     Mistake("a client's core of one thread", "annotate.py narrow.client narrow.out", 0, "range: .*two threads: one is for its cancels"),
     Mistake("text as a journal", "annotate.py good.trace", "12", "OUTPUT|journal.*trace"),
     Mistake("an empty journal", "annotate.py empty", 1, "journal|cut"),
+    Mistake("of two journals the second is cut", "annotate.py second_cut.journals", 1, "annotate.py: second_cut.journals: record 6 is cut"),
+    Mistake("of two journals the second's magic is cut", "annotate.py second_magic.journals", 1, "the magic at place 5 is cut"),
+    Mistake("of two journals the second has another record", "annotate.py second_tag.journals", 1, "record 7 has the tag 7e"),
     Mistake("junk as a journal", "annotate.py junk", 1, "journal"),
     Mistake("an output with codes of a terminal", "annotate.py good.trace codes.out", 1, "good.trace:2: "),
     Mistake("a trace with codes of a terminal", "annotate.py junk empty", "012", ""),
@@ -215,7 +222,7 @@ EXPLAIN = [
     Mistake("explain.py: no words", "explain.py program=$RUN", 2, "usage"),
     Mistake("explain.py: a trace", "explain.py program=$RUN good.trace", 1, r"good.trace: these bytes aren't a journal, which begins with OTTJ\n$"),
     Mistake("explain.py: junk", "explain.py program=$RUN junk", 1, "aren't a journal"),
-    Mistake("explain.py: an empty file", "explain.py program=$RUN empty", 1, "cut|journal"),
+    Mistake("explain.py: an empty file", "explain.py program=$RUN empty", 1, "empty: the magic at place 0 is cut"),
     Mistake("explain.py: a journal that is cut", "explain.py program=$RUN cut.journal", 1, "record 2 is cut"),
     Mistake("explain.py: a journal that is legal", "explain.py program=$RUN good.journal", 0, "legal 2"),
     Mistake("explain.py: a wrong register", "explain.py program=$RUN wrong.journal", 1, "differs: a3 is a6d5c51b, wanted is a5d5c51b"),
@@ -557,6 +564,13 @@ OTHERS = [
     Mistake("optee_run: a misspelled word", "$RUN runs", 2, "usage: optee_run run"),
     Mistake("optee_run: a script", "$RUN run", 3, "bad trace 2 ", BOOT + "smc 0 1 CALLS_UID\n"),
     Mistake("optee_run: CRLF", "$RUN run", 3, "bad trace 1 ", "boot 1 1 1\r\n"),
+    Mistake("optee_run: compare, one journal", "$RUN compare 1", 3, "^bad trace 5 cut\n$", JOURNAL),
+    Mistake("optee_run: compare, another magic of the second journal", "$RUN compare 1", 3, "^bad trace 5 item\n$", JOURNAL + "OTTB" + JOURNAL[4:]),
+    Mistake("optee_run: compare, a second boot above the limits", "$RUN compare 1", 3, "^bad trace 6 range\n$", JOURNAL + WIDE_JOURNAL),
+    Mistake("optee_run: compare, a second journal that is cut", "$RUN compare 1", 3, "^bad trace 7 cut\n$", JOURNAL + JOURNAL[:20]),
+    Mistake("optee_run: compare, a byte behind both", "$RUN compare 1", 3, "^bad trace 10 item\n$", JOURNAL + JOURNAL + "\0"),
+    Mistake("optee_run: compare, a fault in each", "$RUN compare 1", 3, "^bad trace 1 range\n$", WIDE_JOURNAL + JOURNAL[:20]),
+    Mistake("optee_run: audit, a byte behind the end", "$RUN audit", 3, "^bad trace 5 item\n$", JOURNAL + "\0"),
     Mistake("optee_live: a word", "$LIVE x", 2, "usage: optee_live"),
 ]
 

@@ -59,7 +59,8 @@ def main(words):
         return 1
     except plays.Mismatch as mismatch:
         print(plain(annotated(mismatch.entries)), end="")
-        print(f"annotate.py: {plain(str(mismatch))}", file=sys.stderr)
+        where = f"{words[0]}: " if len(words) == 1 else ""  # of a journal's record; a trace's line has its file
+        print(f"annotate.py: {plain(f'{where}{mismatch}')}", file=sys.stderr)
         return 1
     return 0
 

@@ -32,14 +32,15 @@ def verdict_of(runner, words, data):
 
 
 class Reader:
-    """Takes numbers and bytes from the front of a journal; its record counts from 1."""
+    """Takes numbers and bytes from the front of a journal. Its record is the place that `bad trace` has: the magic is at 0, the records count
+    from 1, and so on through those behind it."""
 
     def __init__(self, data):
-        self.data, self.at, self.record = data, 0, 1
+        self.data, self.at, self.record = data, 0, 0
 
-    def take(self, length):
+    def take(self, length, what="record"):
         if self.at + length > len(self.data):
-            raise plays.Mismatch(f"record {self.record} is cut")
+            raise plays.Mismatch(f"{what} {self.record} is cut")
         self.at += length
         return self.data[self.at - length : self.at]
 
@@ -80,8 +81,9 @@ FORMS = {
 
 def records(reader):
     """The records of a reader's next journal, up to its end; other bytes are a Mismatch."""
-    if reader.take(4) != MAGIC:
+    if reader.take(len(MAGIC), "the magic at place") != MAGIC:
         raise NoJournal("these bytes aren't a journal, which begins with OTTJ")
+    reader.record += 1
     while (tag := reader.take(1)[0]) != END:
         if tag not in FORMS:
             raise plays.Mismatch(f"record {reader.record} has the tag {tag:02x}, which is none")
