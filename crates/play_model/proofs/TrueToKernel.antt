@@ -23,6 +23,7 @@ use Rattle.smc_abi.specs.declared.regs.Regs.{Regs}
 use Rattle.play_model.specs.Laws.{Returned, entered}
 use Rattle.play_model.specs.TrueToKernel.{ChangesNothing, ExitsIn, PlaysAreTrue, RefusedIn, came_and_went}
 use Rattle.play_model.proofs.Items.{traces_are_played}
+use Rattle.play_model.proofs.Realms.{histories_have_realms}
 use Rattle.play_model.proofs.Returns.{kernel_before, legal_before, one_more, returns_in}
 
 pub exits_in : (boot : Booted) (history : List Event) → IsLegal boot history → ExitsIn boot history
@@ -121,5 +122,6 @@ plays_are_true natives boot trace play boots e =
       thread_limit = p.no_slot;
       alone = p.alone;
       together = p.together;
+      realms = histories_have_realms on play.history p.legal;
       refused_entry = p.too_many;
     }

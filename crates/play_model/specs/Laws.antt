@@ -83,7 +83,8 @@ pub record AloneIn (boot : Booted) (history : List Event) : Type 0 where
   -- each was answered as its own machine answers to its events
   pub answered : (session : ℕ) (app : Application) → own_app boot history session ≡ Some app → is_single app ≡ false →
       solo_replies (steps_in history) app boot.key (own_events boot history session) ≡ Some (own_replies boot history session)
-  -- that is said of each which the kernel keeps at any place of the history: from there on its application is known
+  -- that is said of each which the kernel keeps on its instance at any place of the history: from there on its application
+  -- is known
   pub known : (before behind : List Event) (kernel : Kernel) (session : ℕ) (app : Application) →
       history ≡ before ++ behind → kernel_after boot before ≡ Some kernel → IsKeptFor boot kernel session app →
       own_app boot history session ≡ Some app
@@ -93,7 +94,8 @@ pub record TogetherIn (boot : Booted) (history : List Event) : Type 0 where
   -- those of one application, a group, were answered as the group's own machine answers to its events
   pub answered : (app : Application) → app_of boot (uuid_of app) ≡ Some app → is_single app ≡ true →
       group_machine_replies (steps_in history) app boot.key (group_events boot history app) ≡ Some (group_replies boot history app)
-  -- that is said of each which the kernel keeps at any place of the history: it has its number in the group there
+  -- that is said of each which the kernel keeps on its instance at any place of the history: it has its number in the
+  -- group there
   pub known : (before behind : List Event) (kernel : Kernel) (session : ℕ) (app : Application) →
       history ≡ before ++ behind → kernel_after boot before ≡ Some kernel → IsKeptTogether boot kernel session app →
       IsSome (get (noted boot before app).sessions session)
@@ -132,8 +134,8 @@ pub record IsPlay (boot : Booted) (items : List Item) (play : Play) : Type 0 whe
   pub no_call : ToldIn boot play.history 3 FindsNoCall
   -- ETHREAD_LIMIT, which is 1, comes exactly where a new call finds no slot free
   pub no_slot : ToldIn boot play.history 1 FindsNoSlot
-  -- sessions that share no instance were answered as alone, each that was ever kept among them; those that share one, as their
-  -- group alone, in which each that was ever kept has its number to the end
+  -- sessions that share no instance were answered as alone, each that was ever kept on its instance among them; those that
+  -- share one, as their group alone, in which each that was ever kept on it has its number to the end
   pub alone : AloneIn boot play.history
   pub together : TogetherIn boot play.history
 

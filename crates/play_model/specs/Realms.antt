@@ -1,5 +1,5 @@
--- What holds of a play's history by one law for those who share an instance: one session, or all sessions of an application. This
--- project's own.
+-- What holds of a play's history by one law for those who share an instance: one session, or all sessions of an application.
+-- This project's own.
 use Rattle.std.specs.Prelude.{◌≡◌, ℕ, List, ◌++◌, Some, IsSome}
 use Rattle.base.specs.NumberMap.{get}
 use Rattle.event_journal.specs.declared.event.Event.{Event}

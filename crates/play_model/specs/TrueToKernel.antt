@@ -20,6 +20,7 @@ use Rattle.trace_text.specs.declared.trace.Trace.{Trace}
 use Rattle.play_model.specs.Laws.{AloneIn, ReturnsIn, TogetherIn, ToldIn, entered}
 use Rattle.play_model.specs.Order.{HoldsInOrder, TellsExits}
 use Rattle.play_model.specs.Play.{Play, played}
+use Rattle.play_model.specs.Realms.{RealmsIn}
 
 -- ---- exits
 
@@ -82,11 +83,16 @@ pub record IsTrueToKernel (natives : List Native) (boot : Boot) (trace : Trace) 
   -- ETHREAD_LIMIT, which is 1, comes exactly where a new call finds no slot free
   pub thread_limit : ToldIn (booted boot natives) play.history 1 FindsNoSlot
   -- a session of an application whose sessions share no instance was answered as its own machine answers to its own
-  -- events alone; that is said of each such session that was kept at any place of the history
+  -- events alone; that is said of each such session that was kept on its instance at any place of the history
   pub alone : AloneIn (booted boot natives) play.history
-  -- the sessions of an application that share an instance, a group, were answered as the group's machine answers to what happens to
-  -- the group alone; each such session that was kept at any place of the history has its number in the group from there on
+  -- the sessions of an application that share an instance, a group, were answered as the group's machine answers to what
+  -- happens to the group alone; each such session that was kept on its instance at any place of the history has its number
+  -- in the group from there on
   pub together : TogetherIn (booted boot natives) play.history
+  -- each session that was kept at any place of the history, whatever became of its instance, is in a realm from there on,
+  -- which is one session or all sessions of an application; and each realm was answered as the machine of a group which has
+  -- what happened to the realm alone
+  pub realms : RealmsIn (booted boot natives) play.history
   -- an entry is refused only where all entries would then have read more than 2^28 bytes
   pub refused_entry : (more : ℕ) → play.refused ≡ Some more → 2 ^ 28 < copied_bytes play.history + more
 

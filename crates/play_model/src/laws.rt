@@ -8,22 +8,22 @@ ghost use Rattle.play_model.specs.TrueToKernel.{PlaysAreTrue};
 
 /// The history of each play is legal and holds the items of each processor in their order. In it a return from RPC
 /// resumes exactly the call that is suspended in its slot for its client, or answers ERESUME and changes nothing;
-/// ETHREAD_LIMIT comes exactly where a new call finds no slot free; and each session whose application shares no
-/// instance was answered as its own machine answers to its events, of which each that was ever kept is one.
+/// ETHREAD_LIMIT comes exactly where a new call finds no slot free; and sessions were answered as their own machine, or
+/// that of their group, answers to their events, each session that was ever kept on its instance among them.
 pub fn traces_are_played()
     ensures { TracesArePlayed }
 {}
 
 /// In one record, the play of each trace on a boot that a core can have is true to the written kernel: besides what
-/// `traces_are_played` says, each exit is the kernel's at its place, and a return from RPC that finds no call changes
-/// nothing but the history.
+/// `traces_are_played` says, each exit is the kernel's at its place, a return from RPC that finds no call changes
+/// nothing but the history, and realms were answered as `histories_have_realms` says.
 pub fn plays_are_true_to_the_kernel()
     ensures { PlaysAreTrue }
 {}
 
-/// In each legal history, and so in that of each play, those who share an instance, one session or all sessions of an application,
-/// were answered as the machine of a group which has what happened to them alone. Each session that was ever kept is one of such, also
-/// one whose open waited for an instance that was gone.
+/// In each legal history, and so in that of each play, a realm, which is one session or all sessions of an application, was
+/// answered as the machine of a group which has what happened to the realm alone. Each session that was ever kept is in a
+/// realm, also one whose open waited for an instance that was gone.
 pub fn histories_have_realms()
     ensures { HistoriesHaveRealms }
 {}

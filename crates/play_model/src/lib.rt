@@ -21,18 +21,18 @@
 //! - a processor goes out with ERESUME exactly where its resume found no call, and with ETHREAD_LIMIT exactly where its
 //!   new call found no slot free;
 //! - each session whose application shares no instance was answered as its own machine answers to its events; that
-//!   speaks of each such session which the kernel keeps at any place of the history;
+//!   speaks of each such session which the kernel keeps on its instance at any place of the history;
 //! - the sessions of each application of the boot whose sessions share an instance were answered as their group's
-//!   machine answers to the group's events; each such session that the kernel keeps at any place of the history has its
-//!   number in its group from there to the end of the history.
+//!   machine answers to the group's events; each such session that the kernel keeps on it at any place of the history has
+//!   its number in its group from there to the end of the history.
 //!
 //! Of each legal history, and so of each play's, the last two are one law besides (`histories_have_realms`): a realm, one
 //! session or all sessions of an application, was answered as the machine of a group which has what happened to the realm
 //! alone; each session that the kernel keeps at any place of the history is in a realm from there on, also while its open
 //! waits for an instance that is gone.
 //!
-//! In one record (`IsTrueToKernel`, by `plays_are_true_to_the_kernel`) all of this holds of the play over RAM of zeros
-//! with the trace's fills, and besides:
+//! In one record (`IsTrueToKernel`, by `plays_are_true_to_the_kernel`) all of this, the law of realms too, holds of the
+//! play over RAM of zeros with the trace's fills, and besides:
 //! - each exit of the history has the registers that the kernel gives it after the events before;
 //! - a return from RPC that finds no call changes nothing but the history: at its entry, and at its exit whatever
 //!   others do between, its processor's part of the kernel alone changes, which is outside again in the end; it is
