@@ -22,6 +22,7 @@ use Rattle.play_model.specs.Line.{Ret}
 use Rattle.play_model.specs.Play.{Play, enters, first_play_within, leaves, leaves_with, with_event, with_line}
 use Rattle.play_model.specs.Play.{with_writes}
 use Rattle.play_model.proofs.Entries.{CameIn, Entered, WasRefused, entered}
+use Rattle.play_model.proofs.Realms.{histories_have_realms}
 use Rattle.play_model.proofs.Returns.{alone_in, no_call_in, no_slot_in, returns_in, together_in}
 use Rattle.play_model.proofs.TrueToKernel.{exits_in, refused_in}
 use Rattle.play_model.proofs.Within.{entry_within, first_within, out_within, within_same}
@@ -189,6 +190,7 @@ steps_are_played most_bytes ram natives drivers boot fills steps told boots e =
       no_slot = no_slot_in on told.play.history legal;
       alone = alone_in on told.play.history legal;
       together = together_in on told.play.history legal;
+      realms = histories_have_realms on told.play.history legal;
       bottom_half = signals_reach_drivers drivers told.calls;
     }
 

@@ -13,6 +13,7 @@ use Rattle.notif.specs.History.{DeskCall, owed_calls}
 use Rattle.notify_text.specs.Steps.{Step}
 use Rattle.play_model.specs.Laws.{AloneIn, ReturnsIn, TogetherIn, ToldIn}
 use Rattle.play_model.specs.Play.{first_play_within, leaves}
+use Rattle.play_model.specs.Realms.{RealmsIn}
 use Rattle.play_model.specs.TrueToKernel.{ExitsIn, RefusedIn}
 use Rattle.smc_abi.specs.Call.{call_of}
 use Rattle.smc_abi.specs.declared.call.Call.TheVariants.{Resume}
@@ -42,10 +43,11 @@ pub record IsNotifyPlay (most_bytes : ℕ) (boot : Booted) (drivers : Drivers) (
   pub no_call : ToldIn boot told.play.history 3 FindsNoCall
   pub change_nothing : RefusedIn boot told.play.history
   pub no_slot : ToldIn boot told.play.history 1 FindsNoSlot
-  -- sessions that share no instance were answered as alone, each that was ever kept among them; those that share one, as their
-  -- group alone
+  -- sessions that share no instance were answered as alone, each that was ever kept on its instance among them; those that
+  -- share one, as their group alone; and each that was ever kept, whatever became of its instance, is in a realm
   pub alone : AloneIn boot told.play.history
   pub together : TogetherIn boot told.play.history
+  pub realms : RealmsIn boot told.play.history
   -- a bottom half that comes next calls exactly the drivers that were signalled, while the desk was enabled, since the last
   -- bottom half or stop, each with the number of these signals, at most 2^32 - 1 (its desk's calls: `StepsCallDesk`)
   pub bottom_half : driver_calls (desk_of drivers told) ≡ owed_calls drivers told.calls

@@ -15,8 +15,8 @@
 //! signalled:
 //! - its history is legal from its boot, its kernel is the one that the history comes to, and each exit in it has the
 //!   kernel's own answer. So what holds of legal histories holds of it: of returns from RPC, which change nothing but
-//!   the history where they find no call, of the thread limit, of sessions that share no instance, and of those that
-//!   share one;
+//!   the history where they find no call, of the thread limit, of sessions that share no instance, of those that share
+//!   one, and of realms;
 //! - its entries read at most as many bytes in all as they may, up to the read limit where the trace is played by
 //!   `notify`, and a refused one would have passed that;
 //! - a bottom half that comes next calls exactly the drivers that were signalled, while signals counted, since the last
