@@ -40,7 +40,7 @@ impl KeptPages {
     {
         self.pages = pages;
         self.bytes.clear();
-        for number in 0..self.pages.len() {
+        for number in 0..self.pages.capacity() {
             let start = PAGE_BYTES as usize * number;
             let page = &ram[start..start + PAGE_BYTES as usize];
             push_page(&mut self.bytes, self.pages.has(number), page)?;

@@ -34,7 +34,8 @@ impl PageSet {
         }
     }
 
-    /// Adds each page that the `len` bytes at `addr` touch, where these lie in RAM, all of them.
+    /// Adds each page that the `len` bytes at `addr` touch, where these lie in RAM, all of them. Which pages it has more is no
+    /// part of the contract.
     pub fn mark(&mut self, addr: u64, len: u64)
         ensures bytes { IsInRam addr len → HasBytes self.new addr len }
         ensures keeps { IsWithin self.old self.new }
@@ -45,9 +46,9 @@ impl PageSet {
         }
     }
 
-    /// How many pages of RAM there are, of which each is one of them or not.
-    pub fn len(&self) -> usize
-        ensures len { result ≡ length self.now }
+    /// How many pages it can have, which are all of RAM's, whichever it has.
+    pub fn capacity(&self) -> usize
+        ensures marks { result ≡ length self.now }
         ensures all { result ≡ 1024 }
     {
         let marks = &self.marks;

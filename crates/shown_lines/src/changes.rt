@@ -94,7 +94,7 @@ pub fn push_changes(
         → OnOk result (text.new.items ≡ text.old.items ++ text_of_changes cpu (changes before after.now)) }
 {
     let mut left = kept.bytes.as_slice();
-    for page in 0..kept.pages.len() {
+    for page in 0..kept.pages.capacity() {
         if !kept.pages.has(page) {
             continue;
         }

@@ -14,7 +14,7 @@
 //!   counts, a session, a registered buffer, or, of a core that keeps them (`CanTell`), events.
 //! - `push_changes` appends a line for each block of 64 bytes of RAM that isn't what it was. It looks at the pages alone
 //!   of which it was kept what they were, outside of which nothing has changed.
-//! - `push_panic` appends that of a panic.
+//! - `push_panic` appends the line of a panic, where there is one.
 #![tactic(auto)]
 
 mod buffers;

@@ -13,8 +13,8 @@ split_at-requires c =
     let kept = c.args.kept.now in
     let before = c.requires.kept.0 in
     let are = c.requires.kept.1 in
-    let within : page < length kept.pages = omega (arith, c.loop-page-test.true, c.len-page-end.ensures.len) in
-    let few : page < 1024 = omega (arith, c.loop-page-test.true, c.len-page-end.ensures.all) in
+    let within : page < length kept.pages = omega (arith, c.loop-page-test.true, c.capacity-page-end.ensures.marks) in
+    let few : page < 1024 = omega (arith, c.loop-page-test.true, c.capacity-page-end.ensures.all) in
     long_enough before c.loop-page.left.now (kept_from kept.pages before (suc page)) page are.whole few
     (kept_here kept before c.args.after.now c.args.cpu page c.args.text.now.items c.loop-page.text.items c.loop-page.left.now within
     (sym c.has.ensures ∙ c.if-not-has.false) (c.loop-page.invariant before are))
@@ -29,8 +29,8 @@ loop-page-preserved c = λ before are.
     let left = c.loop-page.left.now in
     let so = c.loop-page.invariant before are in
     let has = sym c.has.ensures ∙ c.if-not-has.false in
-    let within : page < length kept.pages = omega (arith, c.loop-page-test.true, c.len-page-end.ensures.len) in
-    let few : page < 1024 = omega (arith, c.loop-page-test.true, c.len-page-end.ensures.all) in
+    let within : page < length kept.pages = omega (arith, c.loop-page-test.true, c.capacity-page-end.ensures.marks) in
+    let few : page < 1024 = omega (arith, c.loop-page-test.true, c.capacity-page-end.ensures.all) in
     let here = kept_here kept before after c.args.cpu page start text left within has so in
     let was = c.split_at.ensures.front ∙ front_is before left (kept_from kept.pages before (suc page)) page are.whole few here in
     let more = c.in_ok-push_page.ensures before after start was (page_in after page _ _ (omega arith) (omega arith)) so.told in
@@ -41,8 +41,8 @@ pub loop-page-preserved-then-not-has : goal.loop-page-preserved-then-not-has
 loop-page-preserved-then-not-has c = λ before are.
     let page = c.loop-page.page in
     let kept = c.args.kept.now in
-    let within : page < length kept.pages = omega (arith, c.loop-page-test.true, c.len-page-end.ensures.len) in
-    let few : page < 1024 = omega (arith, c.loop-page-test.true, c.len-page-end.ensures.all) in
+    let within : page < length kept.pages = omega (arith, c.loop-page-test.true, c.capacity-page-end.ensures.marks) in
+    let few : page < 1024 = omega (arith, c.loop-page-test.true, c.capacity-page-end.ensures.all) in
     passed_page kept before c.args.after.now c.args.cpu page c.args.text.now.items c.loop-page.text.items c.loop-page.left.now are few
     within (sym c.has.ensures ∙ c.if-not-has.true) (c.loop-page.invariant before are)
 
@@ -50,7 +50,7 @@ pub returns : goal.returns
 returns c = λ before are.
     let kept = c.args.kept.now in
     let last : c.loop-page.page ≡ 1024 =
-    omega (arith, c.loop-page-test.false, c.loop-page.auto.page-end, c.len-page-end.ensures.all) in
+    omega (arith, c.loop-page-test.false, c.loop-page.auto.page-end, c.capacity-page-end.ensures.all) in
     told_all kept before c.args.after.now c.args.cpu c.args.text.now.items c.loop-page.text.items c.loop-page.left.now c.requires.whole
     (subst (λ (n : ℕ). AreTold kept before c.args.after.now c.args.cpu n c.args.text.now.items c.loop-page.text.items c.loop-page.left.now)
     last (c.loop-page.invariant before are))

@@ -14,11 +14,11 @@ loop-number-preserved c = record {
   pages = c.loop-number.invariant.pages;
   bytes =
       kept_pushed c.args.pages c.args.ram.now c.loop-number.number c.loop-number.self.bytes.items c.push_page.new.bytes.items
-      c.has.result _ _ (omega (arith, c.len-number-end.ensures.len)) (c.has.ensures ∙ ap (λ (p : List Bool). is_in p c.loop-number.number) c.loop-number.invariant.pages)
+      c.has.result _ _ (omega (arith, c.capacity-number-end.ensures.marks)) (c.has.ensures ∙ ap (λ (p : List Bool). is_in p c.loop-number.number) c.loop-number.invariant.pages)
       (omega arith) (omega arith) c.loop-number.invariant.bytes c.in_ok-push_page.ensures;
 }
 
 pub returns-clause-bytes : goal.returns-clause-bytes
 returns-clause-bytes c =
     kept_whole c.args.pages c.args.ram.now c.loop-number.number c.loop-number.self.bytes.items
-    (omega (arith, c.len-number-end.ensures.len)) c.loop-number.invariant.bytes
+    (omega (arith, c.capacity-number-end.ensures.marks)) c.loop-number.invariant.bytes
