@@ -9,13 +9,7 @@ use frame_pool::Pages;
 use msg_args::HEAD_LEN;
 use page_set::PageSet;
 use rpc_cont::{Asked, Cont};
-use rpc_msgs::RpcBuffer;
-
-/// The bytes of an area, for the argument of a request.
-const AREA_BYTES: u64 = 160;
-
-/// The bytes of a buffer, for a request and its payload.
-const BUFFER_BYTES: u64 = 4096;
+use rpc_msgs::{ARGUMENT_BYTES, MESSAGE_BYTES, RpcBuffer};
 
 /// Nothing is done: what a call asks for has few bytes beside it.
 fn payload_is_short(request: &Option<Asked>)
@@ -26,23 +20,23 @@ fn payload_is_short(request: &Option<Asked>)
     }
 }
 
-/// Adds the pages of an area.
+/// Adds the pages of an area, which is for the argument of a request.
 fn mark_area(pages: &mut PageSet, area: Option<u64>)
     ensures covers { (at : ℕ) → area ≡ Some at → CoversBytes pages.new at 160 }
     ensures keeps { IsWithin pages.old pages.new }
 {
     if let Some(at) = area {
-        pages.mark(at, AREA_BYTES);
+        pages.mark(at, ARGUMENT_BYTES);
     }
 }
 
-/// Adds the pages of a buffer.
+/// Adds the pages of a buffer, which is for a request and its payload.
 fn mark_buffer(pages: &mut PageSet, buffer: Option<RpcBuffer>)
     ensures covers { (there : AnyBuffer) → buffer ≡ Some there → CoversBytes pages.new there.addr 4096 }
     ensures keeps { IsWithin pages.old pages.new }
 {
     if let Some(there) = buffer {
-        pages.mark(there.addr, BUFFER_BYTES);
+        pages.mark(there.addr, MESSAGE_BYTES);
     }
 }
 
