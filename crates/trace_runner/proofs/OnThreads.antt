@@ -14,6 +14,7 @@ use Rattle.ordered_play.proofs.NamedOrder.{blocks_name_the_order, has_blocks}
 use Rattle.ordered_play.proofs.PartsOfPlay.{plays_have_parts}
 use Rattle.ordered_play.proofs.PlacesOfPlays.{places_are_each_once}
 use Rattle.play_model.specs.Play.{filled}
+use Rattle.play_model.proofs.Realms.{histories_have_realms}
 use Rattle.play_model.proofs.Returns.{alone_in, no_call_in, no_slot_in, returns_in, together_in}
 use Rattle.ports.specs.Port.{Appends, Rose}
 use Rattle.ta_isa.specs.declared.boot.Boot.{Boot}
@@ -81,6 +82,7 @@ true-in-order natives boot trace order text play boots has turns is blocks =
       thread_limit = no_slot_in on play.history of.legal;
       alone = alone_in on play.history of.legal;
       together = together_in on play.history of.legal;
+      realms = histories_have_realms on play.history of.legal;
       places = places_are_each_once (setting_of natives boot trace) play of by_turns
           (has_blocks natives boot trace order text play has is blocks).ended;
       named = λ none other same few own others.

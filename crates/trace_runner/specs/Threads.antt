@@ -8,6 +8,7 @@ use Rattle.ordered_play.specs.Merge.{IsOfParts, order_with, setting_of}
 use Rattle.ordered_play.specs.Ordered.{OrderedPlay, played_in}
 use Rattle.ordered_play.specs.Places.{PlacesCountUp}
 use Rattle.play_model.specs.Laws.{AloneIn, ReturnsIn, TogetherIn, ToldIn}
+use Rattle.play_model.specs.Realms.{RealmsIn}
 use Rattle.play_model.specs.TrueToKernel.{ExitsIn, RefusedIn}
 use Rattle.ports.specs.Port.{Appends}
 use Rattle.ta_isa.specs.declared.boot.Boot.{Boot}
@@ -51,11 +52,16 @@ pub record IsTrueInOrder (natives : List Native) (boot : Boot) (trace : Trace) (
     -- ETHREAD_LIMIT, which is 1, comes exactly where a new call finds no slot free
     pub thread_limit : ToldIn (booted boot natives) play.history 1 FindsNoSlot
     -- a session of an application whose sessions share no instance was answered as its own machine answers to its own
-    -- events alone; that is said of each such session that was kept at any place of the history
+    -- events alone; that is said of each such session that was kept on its instance at any place of the history
     pub alone : AloneIn (booted boot natives) play.history
-    -- the sessions of an application that share an instance, a group, were answered as the group's machine answers to what happens
-    -- to the group alone; each such session that was kept at any place of the history has its number in the group from there on
+    -- the sessions of an application that share an instance, a group, were answered as the group's machine answers to what
+    -- happens to the group alone; each such session that was kept on its instance at any place of the history has its number
+    -- in the group from there on
     pub together : TogetherIn (booted boot natives) play.history
+    -- each session that was kept at any place of the history, whatever became of its instance, is in a realm from there on,
+    -- which is one session or all sessions of an application; and each realm was answered as the machine of a group which has
+    -- what happened to the realm alone
+    pub realms : RealmsIn (booted boot natives) play.history
     -- for the m SMCs of its history the places 0 to 2m - 1 are printed, each once, by the processor whose entry or exit stands there
     pub places : PlacesCountUp (booted boot natives) play
     -- and so they name this order: where it refuses no entry, its blocks, of fewer than 2^64 bytes, are those of no other order
