@@ -149,16 +149,16 @@ admitted old new visitor lane prepared work is has =
 
 -- where RAM was laid, and it was prepared to read this, it is the event that was done
 pub done_so : (old laid mid new : Replay) (visitor : Visitor) (reads : List Read) (prepared : Prepared) → laid.at_work ≡ old.at_work
-    → HasPrepared laid mid visitor reads prepared → HasDone mid new (entry_of visitor prepared.reads) → HasDone old new (entry_of visitor reads)
-done_so old laid mid new visitor reads prepared same has done = record {
-  boot = done.boot ∙ (with_room laid.at_work.core mid.at_work.core has.room).boot ∙ ap (λ (at_work : CoreAtWork). booted_of at_work.core) same;
+    → HasMoreRoom laid.at_work.core.parts mid.at_work.core.parts → HasPrepared mid visitor reads prepared → HasDone mid new (entry_of visitor prepared.reads) → HasDone old new (entry_of visitor reads)
+done_so old laid mid new visitor reads prepared same room has done = record {
+  boot = done.boot ∙ (with_room laid.at_work.core mid.at_work.core room).boot ∙ ap (λ (at_work : CoreAtWork). booted_of at_work.core) same;
   events = done.events ∙ ap (λ (rs : List Read). done_by mid ++ entry_of visitor rs ∷ []) has.reads_so
-      ∙ ap (λ (es : List Event). es ++ entry_of visitor reads ∷ []) (has.room.events ∙ ap (λ (at_work : CoreAtWork). events_of at_work.core) same);
+      ∙ ap (λ (es : List Event). es ++ entry_of visitor reads ∷ []) (room.events ∙ ap (λ (at_work : CoreAtWork). events_of at_work.core) same);
 }
 
 -- and its visitor can still come in
-pub can_still_enter : (old laid mid : Replay) (visitor : Visitor) (reads : List Read) (prepared : Prepared) → laid.at_work ≡ old.at_work
-    → HasPrepared laid mid visitor reads prepared → CanEnter old.at_work.core (coming_of visitor) → CanEnter mid.at_work.core (coming_of visitor)
-can_still_enter old laid mid visitor reads prepared same has can =
-    can_enter_with_room laid.at_work.core mid.at_work.core (coming_of visitor) has.room
+pub can_still_enter : (old laid mid : Replay) (visitor : Visitor) → laid.at_work ≡ old.at_work
+    → HasMoreRoom laid.at_work.core.parts mid.at_work.core.parts → CanEnter old.at_work.core (coming_of visitor) → CanEnter mid.at_work.core (coming_of visitor)
+can_still_enter old laid mid visitor same room can =
+    can_enter_with_room laid.at_work.core mid.at_work.core (coming_of visitor) room
     (subst (λ (at_work : CoreAtWork). CanEnter at_work.core (coming_of visitor)) (sym same) can)

@@ -5,7 +5,7 @@ use Rattle.audit_model.specs.Verdicts.{IsFaultless}
 use Rattle.event_journal.specs.declared.event.Event.{Event}
 use Rattle.event_journal.specs.declared.event.Event.TheVariants.{Entry}
 use Rattle.journal_replay.specs.declared.replay.Replay.{Replay}
-use Rattle.core_at_work.specs.Entering.{HasMoreRoom, IsPrepared}
+use Rattle.core_at_work.specs.Entering.{IsPrepared}
 use Rattle.core_at_work.specs.Prepared.{Prepared}
 use Rattle.core_at_work.specs.Visitor.{Visitor}
 use Rattle.kernel_model.specs.Application.{Booted}
@@ -37,14 +37,13 @@ Does old new event (Err error) = Unit {0}
 
 -- ---- an entry, before it is done
 
--- it is prepared, and reads just this; the core has more room
-pub record HasPrepared (old new : Replay) (visitor : Visitor) (reads : List Read) (prepared : Prepared) : Type 0 where
-  pub room : HasMoreRoom old.at_work.core.parts new.at_work.core.parts
+-- it is prepared, and reads just this
+pub record HasPrepared (new : Replay) (visitor : Visitor) (reads : List Read) (prepared : Prepared) : Type 0 where
   pub is : IsPrepared new.at_work.core.parts visitor.regs.a new.lane prepared
   pub reads_so : prepared.reads ≡ reads
 
 -- by the answer: it is prepared; it can't be next; or memory was wanting
 abbrev pub PreparesNext : Replay → Replay → Visitor → List Read → Result (Option Prepared) NoMemory → Type 0
-PreparesNext old new visitor reads (Ok (Some prepared)) = HasPrepared old new visitor reads prepared
+PreparesNext old new visitor reads (Ok (Some prepared)) = HasPrepared new visitor reads prepared
 PreparesNext old new visitor reads (Ok None) = CanBeNext old (Entry visitor.cpu visitor.regs visitor.steps reads) → ⊥
 PreparesNext old new visitor reads (Err error) = Unit {0}

@@ -15,8 +15,8 @@
 //!   and steady history, whatever the event is, or tells want of memory (`Does`). So true comes exactly where they are
 //!   one, since the events that were done always are (`replays_are_faultless`). It asks that the reads of all entries
 //!   stay within the read limit. Its entry is lent in three parts: `lay_for`; `prepare`, by which the entry reads what
-//!   the journal says or can't come next (`PreparesNext`), and whose core, whatever it answers, has only more room; and
-//!   `admit`. So what was decided can be read off before it is done.
+//!   the journal says or can't come next (`PreparesNext`), and which, whatever it answers, leaves RAM as it was laid and
+//!   the core as it was, but with more room; and `admit`. So what was decided can be read off before it is done.
 //! - `lay` lays reads into RAM: where each is of some bytes of RAM, and no two have different bytes at one address, RAM
 //!   then has the bytes of all of them. The reads of an entry of a legal and steady history are such, so a core reads
 //!   them again.

@@ -95,8 +95,9 @@ impl Replay {
         true
     }
 
-    /// Prepares the entry of a visitor over RAM that has what it reads, if that can be of one RAM: what was decided can be read then.
-    /// `None` where it can't have come next. Whatever the answer, nothing is done so far: the core stays as it is, but has more room.
+    /// Prepares the entry of a visitor over RAM that has what it reads, if that can be of one RAM: what was decided can be
+    /// read then. `None` where it can't have come next. Whatever the answer, nothing is done so far: RAM stays as it was
+    /// laid, and the core as it is, but has more room.
     #[inline(always)]
     pub fn prepare(
         &mut self,
@@ -107,6 +108,7 @@ impl Replay {
         requires laid { AreOfOneRam reads.now → HoldsReads self.old.lane reads.now }
         requires few { copied_bytes (done_by self.old ++ Entry visitor.now.cpu visitor.now.regs visitor.now.steps reads.now ∷ []) ≤ 2 ^ 28 }
         ensures prepares { PreparesNext self.old self.new visitor.now reads.now result }
+        ensures lane { self.new.lane ≡ self.old.lane }
         ensures room { HasMoreRoom self.old.at_work.core.parts self.new.at_work.core.parts }
         ensures others { SameOutgoing self.old.at_work self.new.at_work }
     {

@@ -29,13 +29,13 @@ prepare-requires-clause-few g c =
 
 pub admit-requires-clause-can : goal.admit-requires-clause-can
 admit-requires-clause-can g c =
-    can_still_enter c.args.replay.now c.lay_for.new.self c.prepare.new.self c.args.visitor c.args.reads.now c.in-Some.prepared
-    c.lay_for.ensures.stays (rw c.in-Some.is at c.in_ok-ready.ensures.prepares) (c.lay_for.ensures.can.0 c.if-not-lay_for.false)
+    can_still_enter c.args.replay.now c.lay_for.new.self c.prepare.new.self c.args.visitor
+    c.lay_for.ensures.stays c.prepare.ensures.room (c.lay_for.ensures.can.0 c.if-not-lay_for.false)
 
 pub admit-requires-clause-prepared : goal.admit-requires-clause-prepared
 admit-requires-clause-prepared g c =
     let laid = c.lay_for.new.self in
-    let has : HasPrepared laid c.prepare.new.self c.args.visitor c.args.reads.now c.in-Some.prepared = rw c.in-Some.is at c.in_ok-ready.ensures.prepares in
+    let has : HasPrepared c.prepare.new.self c.args.visitor c.args.reads.now c.in-Some.prepared = rw c.in-Some.is at c.in_ok-ready.ensures.prepares in
     record { lane = c.prepare.new.self.lane; is = has.is }
 
 pub admit-requires-clause-kept : goal.admit-requires-clause-kept
@@ -45,17 +45,17 @@ admit-requires-clause-kept g c =
 pub returns-in_ok-admit-in-Some-clause-does : goal.returns-in_ok-admit-in-Some-clause-does
 returns-in_ok-admit-in-Some-clause-does g c =
     done_so c.args.replay.now c.lay_for.new.self c.prepare.new.self c.admit.new.replay c.args.visitor c.args.reads.now c.in-Some.prepared
-    c.lay_for.ensures.stays (rw c.in-Some.is at c.in_ok-ready.ensures.prepares) c.in_ok-admit-in-Some.ensures.done
+    c.lay_for.ensures.stays c.prepare.ensures.room (rw c.in-Some.is at c.in_ok-ready.ensures.prepares) c.in_ok-admit-in-Some.ensures.done
 
 pub returns-in_ok-admit-in-Some-clause-noted : goal.returns-in_ok-admit-in-Some-clause-noted
 returns-in_ok-admit-in-Some-clause-noted g c ok =
     let laid = c.lay_for.new.self in
     let mid = c.prepare.new.self in
-    let has : HasPrepared laid mid c.args.visitor c.args.reads.now c.in-Some.prepared = rw c.in-Some.is at c.in_ok-ready.ensures.prepares in
+    let has : HasPrepared mid c.args.visitor c.args.reads.now c.in-Some.prepared = rw c.in-Some.is at c.in_ok-ready.ensures.prepares in
     record {
       mid = mid.at_work.core;
       room = subst (λ (at_work : CoreAtWork). IsAsBefore at_work.core mid.at_work.core) c.lay_for.ensures.stays
-          (with_room laid.at_work.core mid.at_work.core has.room);
+          (with_room laid.at_work.core mid.at_work.core c.prepare.ensures.room);
       noted = subst (λ (reads : List Read).
           IsNoted g.N.EventNotes.meaning mid.at_work.core c.admit.new.replay.at_work.core c.args.notes.now c.admit.new.notes (entry_of c.args.visitor reads))
           has.reads_so c.in_ok-admit-in-Some.ensures.noted;

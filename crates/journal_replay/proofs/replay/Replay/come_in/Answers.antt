@@ -24,19 +24,19 @@ prepare-requires-clause-few c =
 
 pub admit-requires-clause-can : goal.admit-requires-clause-can
 admit-requires-clause-can c =
-    can_still_enter c.args.self.now c.lay_for.new.self c.prepare.new.self c.args.visitor c.args.reads.now c.in-Some.prepared
-    c.lay_for.ensures.stays (rw c.in-Some.is at c.in_ok-ready.ensures.prepares) (c.lay_for.ensures.can.0 c.if-not-lay_for.false)
+    can_still_enter c.args.self.now c.lay_for.new.self c.prepare.new.self c.args.visitor
+    c.lay_for.ensures.stays c.prepare.ensures.room (c.lay_for.ensures.can.0 c.if-not-lay_for.false)
 
 pub admit-requires-clause-prepared : goal.admit-requires-clause-prepared
 admit-requires-clause-prepared c =
     let laid = c.lay_for.new.self in
-    let has : HasPrepared laid c.prepare.new.self c.args.visitor c.args.reads.now c.in-Some.prepared = rw c.in-Some.is at c.in_ok-ready.ensures.prepares in
+    let has : HasPrepared c.prepare.new.self c.args.visitor c.args.reads.now c.in-Some.prepared = rw c.in-Some.is at c.in_ok-ready.ensures.prepares in
     record { lane = c.prepare.new.self.lane; is = has.is }
 
 pub returns-in-Some : goal.returns-in-Some
 returns-in-Some c =
     done_so c.args.self.now c.lay_for.new.self c.prepare.new.self c.admit.new.self c.args.visitor c.args.reads.now c.in-Some.prepared
-    c.lay_for.ensures.stays (rw c.in-Some.is at c.in_ok-ready.ensures.prepares) c.admit.ensures.done
+    c.lay_for.ensures.stays c.prepare.ensures.room (rw c.in-Some.is at c.in_ok-ready.ensures.prepares) c.admit.ensures.done
 
 pub returns-in-None : goal.returns-in-None
 returns-in-None c =

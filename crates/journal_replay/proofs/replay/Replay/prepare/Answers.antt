@@ -11,7 +11,6 @@ invariant_of-self c =
 
 pub returns-then-are_same_reads-clause-prepares : goal.returns-then-are_same_reads-clause-prepares
 returns-then-are_same_reads-clause-prepares c = record {
-  room = c.prepare.ensures.room;
   is = c.in-Ok.ensures.prepares;
   reads_so = sym c.as_slice.ensures ∙ c.are_same_reads.ensures.0 c.if-are_same_reads.true;
 }
