@@ -15,9 +15,10 @@
 //! What a processor goes out with is its open entry, behind its granted steps, so that it can always go out. `core_of`,
 //! which boots a core, is refused for want of memory alone, as no UUID stands twice.
 //! - `enter` is the core's entry (`HasEntered`) and the granted steps behind it, which need neither the core nor RAM,
-//!   or a refusal, by which the core and what its processors go out with are as they were (`ComesIn`). It comes to
-//!   `prepare` and then `admit`, between which what was decided can be read. `may_enter` tells exactly whether a visitor can come
-//!   in, `is_inside` whether a processor is inside; `outgoing` lends what a processor goes out with to be read.
+//!   or a refusal, by which the core and what its processors go out with are as they were (`ComesIn`). `prepare` and
+//!   then `admit` are such an entry in two, between which what was decided can be read. `may_enter` tells exactly whether
+//!   a visitor can come in, `is_inside` whether a processor is inside; `outgoing` lends what a processor goes out with to
+//!   be read.
 //! - `leave` is the core's exit (`HasLeft`) with what was kept. Beside the registers it tells the code of the panic in
 //!   which the granted steps have ended, if they did, and no other (`GoesOut`): that of the kernel's own grant
 //!   (`panic_of`), which shows in no register; `panic` tells it before. Neither an entry nor an exit changes what

@@ -94,8 +94,7 @@ pub fn admit(alloc: Global, core: &mut Core, visitor: Visitor, prepared: Prepare
     }
 }
 
-/// A processor comes in, by what its registers ask for: its entry is prepared, and it is let in. Where it is refused the core
-/// is as it was.
+/// A processor comes in, by what its registers ask for. Where it is refused the core is as it was.
 pub fn enter(
     alloc: Global,
     core: &mut Core,
@@ -118,7 +117,8 @@ pub fn enter(
     }
 }
 
-/// The same, by a decision of any kind. It is built into no other entry, since that would clear its places, too.
+/// Lets a processor in by a decision of any kind: prepared, and then admitted. It is built into no other entry, since that
+/// would clear its places, too.
 #[inline(never)]
 fn enter_prepared(
     alloc: Global,

@@ -17,9 +17,9 @@
 //! - `prepare` takes all memory of an entry, and tells what was decided: the kernel decides just so, by just the reads
 //!   that are listed, and a call that goes on is given just this. The core stays, with more room; or the entry is
 //!   refused as below. `admit` then lets a processor with these registers in; it takes no memory and can't fail.
-//! - `enter` comes to the same, and parts the kinds of calls at once: one event more, whose reads have the lane's bytes, and the work of its
-//!   processor; or it is refused, with more bytes read together than the core's terms allow or for want of memory, and
-//!   boot, terms and events are as they were. All memory is taken before anything changes.
+//! - `enter` is such an entry at once, which parts the kinds of calls: one event more, whose reads have the lane's bytes,
+//!   and the work of its processor; or it is refused, with more bytes read together than the core's terms allow or for
+//!   want of memory, and boot, terms and events are as they were. All memory is taken before anything changes.
 //! - What the parts ask for of legal histories is proved here from `kernel_model`'s laws: the slot's call doesn't wait
 //!   yet, instances have their pages, a new instance's number is free, fewer than 80 are kept, and a call that waits
 //!   stands in line.

@@ -31,7 +31,7 @@ pub fn make_room(journal: &mut Log, cpus: u8) -> Result<(), NoMemory>
     journal.reserve(u32::from(cpus) + 1)
 }
 
-/// The same of a core, for its processors.
+/// Makes room in a core for one entry, and for the exits of all its processors.
 #[inline(always)]
 pub(crate) fn make_room_in(core: &mut Core) -> Result<(), NoMemory>
     ensures more { HasMoreRoom core.old.parts core.new.parts }
