@@ -1,11 +1,12 @@
-//! What is noted of somebody as the events of a journal are done again: of a session, or of the sessions of an application.
+//! What is noted of somebody as the events of a journal are done again: of a session, or of the sessions of an
+//! application.
 //!
-//! Each entry is decided once: what it is for them is read off what was decided, before it is done again; once the core has done
-//! it, it is noted, and so is an exit. The list of what happened to them, each beside what they were answered, is taken event by event, so that no journal's
-//! whole list need be kept.
+//! Each entry is decided once: what it is for them is read off what was decided, before it is done again; once the core has
+//! done it, it is noted, and so is an exit. The list of what happened to them, each beside what they were answered, is taken
+//! event by event, so that no journal's whole list need be kept.
 //!
-//! `logged` has logs, `notes` what notes can do, `noting` does an event again and notes it, and `reading` reads a log event by
-//! event, or whole.
+//! `logged` has logs, `notes` what notes can do, `noting` does an event again and notes it, and `reading` reads a log event
+//! by event, or whole.
 //!
 //! It touches the RAM of the core on which events are done again, and no port and no thread.
 //!

@@ -10,7 +10,7 @@ use std::alloc::Global;
 /// An event of somebody, with its reply, if it has one.
 pub type Logged<E, R> = (E, Option<R>);
 
-/// An event of somebody, with its reply, if it has one, each of both on the heap: together they can take 7,400 bytes.
+/// An event of somebody, with its reply, if it has one, each of both on the heap.
 pub type BoxedEntry<E, R> = (Boxed<E>, Option<Boxed<R>>);
 
 /// The entry itself.
