@@ -48,20 +48,22 @@ pub fn scripts_have_plays()
     ensures { ScriptsHavePlays }
 {}
 
-/// Each printed result of a session whose application's sessions share no instance is that of the session's `Ended` reply to this
-/// very call, at the call's last exit, which the session's own machine gives to its events alone; and where the application returned
-/// the result, what the line has of the call's parameters tells the outputs of that reply, of memory where its size is below 2^32.
+/// Each printed result of a session whose application's sessions share no instance is that of the session's `Ended` reply
+/// to this very call, at the call's last exit, which the session's own machine gives to its events alone; and where the
+/// application returned the result, what the line has of the call's parameters tells the outputs of that reply, of memory
+/// where its size is below 2^32.
 pub fn results_are_told_alone()
     ensures { ResultsAreToldAlone }
 {}
 
-/// What tells the outputs of a reply is printed as these are, where each size is below 2^32: each value, and of memory the size with as
-/// many bytes.
+/// What tells the outputs of a reply is printed as these are, where each size is below 2^32: each value, and of memory the
+/// size with as many bytes.
 pub fn outputs_are_printed()
     ensures { OutputsArePrinted }
 {}
 
-/// And each is by itself, whatever the other three are: where the size of one is 2^32 or more, these are printed so still.
+/// What tells one output of a reply is printed as that is, where its size is below 2^32, whatever the other three are: where
+/// the size of one is 2^32 or more, the others are printed so still.
 pub fn each_output_is_printed()
     ensures { EachOutputIsPrinted }
 {}

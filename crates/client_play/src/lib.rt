@@ -38,9 +38,9 @@
 //!   the call's last exit, and is none of those that the session had when the call began.
 //! - Where the application returned that result, what the line has of each parameter tells the output of this reply
 //!   (`TellsOutputs`): both numbers of a value, and of memory the size with as many bytes, or none where the buffer has
-//!   fewer. Such outputs are printed as those of the reply are (`outputs_are_printed`), each by itself (`each_output_is_printed`). What that memory held
-//!   meanwhile, and whoever wrote it, makes no difference, since the exit writes it last; of bytes behind the size
-//!   nothing is printed.
+//!   fewer. Such outputs are printed as those of the reply are (`outputs_are_printed`), each by itself
+//!   (`each_output_is_printed`). What that memory held meanwhile, and whoever wrote it, makes no difference, since the
+//!   exit writes it last; of bytes behind the size nothing is printed.
 //! - For memory this asks that the size which the application sets is below 2^32, as its machine's registers are: that
 //!   it is, and that results are, isn't stated. A client of scripts registers no memory, so nothing is said of that.
 //! - All this of results and outputs holds of an open that was given a session, also where it then failed, and of each

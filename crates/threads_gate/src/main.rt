@@ -2,9 +2,10 @@
 //! calls, until the other has come so far. No order in which one processor plays after the other lets both go on, nor does
 //! one in which a call is done from its entry to its exit while the other processor stands still.
 //!
-//! Each processor has to come to where the other waits for it, and the places of their answers are compared with those of one that waits
-//! inside its calls: behind their entries, and before their exits. Then prints the status, the places of all answers, and of each processor how
-//! often the pace was called for its first call, its second, its third and any other number.
+//! Each processor has to come to where the other waits for it, and the places of their answers are compared with those of
+//! one that waits inside its calls: behind their entries, and before their exits. Then prints the status, the places of all
+//! answers, and of each processor how often the pace was called for its first call, its second, its third and any other
+//! number.
 #![tactic(auto)]
 
 mod calls;
