@@ -3,7 +3,8 @@
 //! A [`LivePlayer`] judges each line behind those that count so far, gathers what the lines of the header say, boots
 //! its core at the first line behind them, and then plays each item and each signal as it comes. What a line prints is
 //! appended to the text of its answer, and where exits are watched the panics in which their calls end and what they
-//! change in RAM. It also tells what its core keeps.
+//! change in RAM. For that a [`Watch`] has room for the pages to which an exit can write: these alone are compared. It
+//! also tells what its core keeps.
 //!
 //! `specs/` has `Header`, `Standing`, where a player stands behind which lines, `Taking`, how a line is taken,
 //! `Panicking`, the panic in which the call of its exit has ended, and `Watching`, how a line is taken where exits are
@@ -21,8 +22,7 @@
 //!   stood, so that at the first entry lines of the header may follow; or the line breaks a rule, by its name, which
 //!   changes nothing. Of want of memory nothing is said, behind which the player is done with.
 //! - `take_watched_line` does the same (`Watches`), and appends behind the line of an exit that of the panic in which
-//!   its call has ended, if it did, and those of all that it has changed in its processor's RAM, which is compared in the pages alone to
-//!   which the exit could write (`Watch`).
+//!   its call has ended, if it did, and those of all that it has changed in its processor's RAM.
 //! - `push_told` appends what is told of the play of these lines to a question (`answer_at`), with a boot among them,
 //!   and changes nothing.
 //! - The core's terms are those of the lines (`terms_where`): where history is off it counts its events, and its

@@ -22,11 +22,11 @@ use trace_text::{BadKind, LineFault};
 #[derive(Drop)]
 pub(crate) struct Talk {
     player: LivePlayer,
-    /// Exits are followed by what they change in RAM.
+    /// Exits are followed by the panics in which their calls end, and by what they change in RAM.
     is_watching: bool,
     pub(crate) line: Vec<u8>,
     pub(crate) answer: Vec<u8>,
-    /// Room for what a processor's RAM was before its exit.
+    /// Room for what stood in RAM where an exit that is watched can write.
     watch: Watch,
 }
 
