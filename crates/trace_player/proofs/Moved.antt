@@ -74,7 +74,8 @@ stayed-out boot at visit visitor machine player (refusal.Full copied more) same 
   ap (enters boot at.play) (sym same) ∙ entered.0.ends,
   record { machine = entered.1; answers = stands.answers },
 )
-stayed-out boot at visit visitor machine player refusal.Memory same entered stands = tt
+stayed-out boot at visit visitor machine player refusal.Memory same entered stands =
+    record { machine = entered; answers = stands.answers }
 
 kernel-there : (machine : Machine) (o : Option Kernel) → kernel_of machine.at_work.core ≡ o → IsSome o → (kernel : Kernel)
     × (kernel_of machine.at_work.core ≡ Some kernel)

@@ -55,14 +55,14 @@ after_item_of kind i before =
 
 -- ---- an entry, an exit
 
--- an entry, which prints nothing; at a refused one the player is where it was
+-- an entry, which prints nothing; at a refused one, and at want of memory, the player is where it was
 abbrev pub ComesIn : Booted → Position → Visit → Result (Unit {0}) Stop → Player → Type 0
 ComesIn boot at visit (Ok done) player =
     (next : Play) × (enters boot at.play visit ≡ Some next) × StandsAt boot (record at { play = next }) player
 ComesIn boot at visit (Err Full) player =
     (more : ℕ) × (enters boot at.play visit ≡ Some (record at.play { refused = Some more })) × StandsAt boot at player
 ComesIn boot at visit (Err Failed) player = ⊥
-ComesIn boot at visit (Err Memory) player = Unit {0}
+ComesIn boot at visit (Err Memory) player = StandsAt boot at player
 
 -- an exit with these registers, the kernel's answer
 pub record GoesOut (boot : Booted) (at : Position) (told : Told) (player : Player) : Type 0 where

@@ -65,7 +65,9 @@ impl Player {
         self.answers[usize::from(cpu)]
     }
 
-    /// A processor comes in.
+    /// A processor that is outside comes in with these registers, of which each is a number or one of those that it was last
+    /// told, and its granted steps, from 1 to 1,000,000, are done. `Full` where all entries would then have read more bytes
+    /// than they may, `Memory` for want of it: at either the player is as it was.
     pub fn enter(&mut self, alloc: Global, cpu: u8, steps: u32, regs: &[Reg; 8]) -> Result<(), Stop>
         requires { CanComeIn self.old.machine cpu steps regs.now }
         ensures comes { (boot : Booted) (at : Position) → StandsAt boot at self.old
@@ -81,7 +83,8 @@ impl Player {
         Ok(())
     }
 
-    /// A processor goes out of the core, and is told nothing yet.
+    /// A processor that is inside goes out of the core, which writes to the RAM that it sees; it is told nothing yet, and
+    /// `tell` is to follow. Gives the kernel's answer, and the panic in which its call has ended, if it did. Takes no memory.
     pub fn leave(&mut self, cpu: u8) -> Exit
         requires { CanGoOut self.old.machine cpu }
         ensures leaves { (boot : Booted) (at : Position) → StandsAt boot at self.old → GoesOut boot at result.answer self.new }
@@ -149,9 +152,9 @@ impl Player {
         Ok(())
     }
 
-    /// Plays an item up to where a processor goes out of the core by it, if one does, and gives its exit: that one is told nothing
-    /// yet, and `tell` is to follow. Where an entry is refused, nothing is printed, and the player is as it was; at want of memory a
-    /// part of a line may stand behind the lines.
+    /// Plays an item up to where a processor goes out of the core by it, if one does, and gives its exit: that one is told
+    /// nothing yet, and `tell` is to follow. Where an entry is refused, nothing is printed, and the player is as it was; at
+    /// want of memory a part of a line may stand behind the lines.
     pub fn begin_item(
         &mut self,
         alloc: Global,
@@ -186,9 +189,9 @@ impl Player {
         }
     }
 
-    /// Plays an item, of which a processor that goes out is told the kernel's answer, and appends what it prints to the lines. Where
-    /// an entry is refused, nothing is printed, and the player is as it was; at want of memory a part of a line may stand behind the
-    /// lines.
+    /// Plays an item, of which a processor that goes out is told the kernel's answer, and appends what it prints to the lines.
+    /// Where an entry is refused, nothing is printed, and the player is as it was; at want of memory a part of a line may
+    /// stand behind the lines.
     pub fn play_item(&mut self, alloc: Global, item: &Item, lines: &mut Vec<u8>) -> Result<(), Stop>
         requires { CanTake self.old item.now }
         ensures follows { (boot : Booted) (play : Play) → IsPlayedTo boot play self.old
