@@ -89,6 +89,18 @@ pinned = record {
 abbrev pub zeros_call : List ℕ
 zeros_call = codes "smc 0 1 32000004 0 40000000 0 0 0 0 0"
 
+-- each exit is watched, RAM has bytes from the header on, and a line writes
+abbrev pub copied_turns : List Turn
+copied_turns =
+    turn (codes "watch on") ok
+    ∷ turn (codes "boot 1 1 1") ok
+    ∷ turn (codes "mem 4000003e 00ff") ok
+    ∷ turn zeros_call (zeros_told ∷ codes "wrote 0 40000000 00000000000000000000000000000000000000000600ffff030000000000000000000000000000000000000000000000000000000000000000000000000000ff" ∷ ok)
+    ∷ turn (codes "write 0 40000030 07") ok
+    ∷ turn (codes "write 0 3fffffff 07") (codes "bad range" ∷ [])
+    ∷ turn (codes "show 0 40000000 1") (codes "mem 0 40000000 00" ∷ ok)
+    ∷ []
+
 pub record ShowingExamples : Type 0 where
   -- a question needs a boot before it, changes nothing, and leaves the header open
   pub of_a_state : GoesSo (
@@ -130,15 +142,9 @@ pub record ShowingExamples : Type 0 where
       ∷ turn zeros_call (zeros_told ∷ ok)
       ∷ [])
   -- who keeps a copy has RAM behind such an exit, and behind a line that writes
-  pub of_a_copy : copy_behind on first_position (inputs_of (
-      turn (codes "watch on") ok
-      ∷ turn (codes "boot 1 1 1") ok
-      ∷ turn (codes "mem 4000003e 00ff") ok
-      ∷ turn zeros_call (zeros_told ∷ ok)
-      ∷ turn (codes "write 0 40000030 07") ok
-      ∷ turn (codes "write 0 3fffffff 07") (codes "bad range" ∷ [])
-      ∷ turn (codes "show 0 40000000 1") (codes "mem 0 40000000 00" ∷ ok)
-      ∷ [])) []
+  pub of_copied_turns : GoesSo copied_turns
+  pub of_copied_exits : watches on first_position (inputs_of copied_turns) ≡ true
+  pub of_a_copy : copy_behind on first_position (inputs_of copied_turns) []
       ≡ (replicate 20 0 ++ (6 ∷ 0 ∷ 255 ∷ 255 ∷ 3 ∷ (replicate 23 0 ++ (7 ∷ (replicate 14 0 ++ 255 ∷ []))))) ∷ []
   -- but not behind one that isn't watched
   pub of_no_copy : watches on first_position (inputs_of (turn (codes "boot 1 1 1") ok ∷ turn zeros_call (zeros_told ∷ ok) ∷ [])) ≡ false
