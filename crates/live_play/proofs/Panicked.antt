@@ -20,7 +20,7 @@ use Rattle.rpc_msgs.specs.declared.rpc.Rpc.TheVariants as rpc
 use Rattle.rpc_msgs.specs.declared.rpc_buffer.RpcBuffer.{RpcBuffer}
 use Rattle.ta_params.specs.declared.call_result.CallResult.{CallResult}
 use Rattle.ta_params.specs.declared.copied_params.CopiedParams.{CopiedParams}
-use Rattle.live_play.specs.PanickingLaws.{ComesTo, GivesResult, IsEnded, PanicsEndCalls, has_ended, has_result, result_in, result_of_panic, slot_of}
+use Rattle.live_play.specs.PanickingLaws.{ComesTo, GivesResult, IsEnded, IsLeftWith, PanicsEndCalls, has_ended, has_result, result_in, result_of_panic, slot_of}
 
 -- ---- behind the exit
 
@@ -57,19 +57,33 @@ finishes_dead slot call params left (Some woken) result is =
     let request : Request = plain_request (rpc.Wake woken) in
     never_finishes (place_of call request) request left result is
 
+-- a call that has come on is the one that was carried
+record IsStill (carried call : PendingCall) : Type 0 where
+  client : call.client ≡ carried.client
+  session : call.session ≡ carried.session
+  arg : call.arg ≡ carried.arg
+
+-- with its result it is left so
+left_with : (carried call : PendingCall) (params : CopiedParams) (wakes : Option ℕ) → IsStill carried call
+    → call.phase ≡ Ends result_of_panic params true wakes → IsLeftWith carried result_of_panic call.client call
+left_with carried call params wakes still phase =
+    record { client = still.client; session = still.session; arg = still.arg; result = ap result_in phase }
+
 -- so it leaves its slot with its result, or free, and that was written
-leaves_dead : (slot : ℕ) (call : PendingCall) (params : CopiedParams) (wakes : Option ℕ)
+leaves_dead : (slot : ℕ) (carried call : PendingCall) (params : CopiedParams) (wakes : Option ℕ) → IsStill carried call
     → call.phase ≡ Ends result_of_panic params true wakes → (leaving : Leaving) → leaving_of slot call ≡ leaving
-    → GivesResult call.arg result_of_panic (writes_of call leaving) (slot_left call leaving)
-leaves_dead slot call params wakes phase Interrupted is = (refl, ap result_in phase)
-leaves_dead slot call params wakes phase WantsBuffer is = (refl, ap result_in phase)
-leaves_dead slot call params wakes phase (Requests place request) is = (refl, ap result_in phase)
-leaves_dead slot call params wakes phase (FreesBuffer buffer) is = (refl, ap result_in phase)
-leaves_dead slot call params wakes phase (Finishes result left) is =
+    → GivesResult carried result_of_panic (writes_of call leaving) (slot_left call leaving)
+leaves_dead slot carried call params wakes still phase Interrupted is = left_with carried call params wakes still phase
+leaves_dead slot carried call params wakes still phase WantsBuffer is = left_with carried call params wakes still phase
+leaves_dead slot carried call params wakes still phase (Requests place request) is = left_with carried call params wakes still phase
+leaves_dead slot carried call params wakes still phase (FreesBuffer buffer) is =
+    record { client = still.client; session = still.session; arg = still.arg; result = ap result_in phase }
+leaves_dead slot carried call params wakes still phase (Finishes result left) is =
     let same : result ≡ result_of_panic =
     finishes_dead slot call params left wakes result (ap (leaving_in slot call) (sym phase) ∙ is) in
     let last : List Write = word32 (ret_at call.arg) target_dead ∷ word32 (origin_at call.arg) 3 ∷ [] in
     ap (λ (r : CallResult). result_writes call r left) same ∙ ap (λ (writes : List Write). writes ++ last) (no_session call call.kind)
+    ∙ ap (λ (arg : ℕ). word32 (ret_at arg) target_dead ∷ word32 (origin_at arg) 3 ∷ []) still.arg
 
 module _ (kernel : Kernel) (visit : Visit) (slot code worker : ℕ) (call : PendingCall)
     (was : slice_get kernel.slots slot ≡ Some (Active worker call)) (exited : Exited) where
@@ -87,7 +101,7 @@ module _ (kernel : Kernel) (visit : Visit) (slot code worker : ℕ) (call : Pend
         was = was;
         held = left;
         there = set_found kernel.slots slot left (Active worker call) was;
-        gives = leaves_dead slot progress.call no_params _ refl leaving refl;
+        gives = leaves_dead slot call progress.call no_params _ (record { client = refl; session = refl; arg = refl }) refl leaving refl;
       })
 
   grant_dead : (granted : ℕ) (grant : Option Grant) → option_and_then grant_panic grant ≡ Some code
@@ -143,18 +157,18 @@ phase_of_result (Asks job wanted payload) result is = absurd cc
 phase_of_result (Waits params) result is = absurd cc
 phase_of_result (Ends given params told wakes) result is = refl
 
-gives_ended : (arg : ℕ) (result : CallResult) (writes : List Write) (held : ThreadSlot) → GivesResult arg result writes held
-    → has_ended held ≡ true
-gives_ended arg result writes Free gives = refl
-gives_ended arg result writes (Active worker call) gives = absurd gives
-gives_ended arg result writes (Suspended client call) gives = phase_of_result call.phase result gives.1
+gives_ended : (carried : PendingCall) (result : CallResult) (writes : List Write) (held : ThreadSlot)
+    → GivesResult carried result writes held → has_ended held ≡ true
+gives_ended carried result writes Free gives = refl
+gives_ended carried result writes (Active worker call) gives = absurd gives
+gives_ended carried result writes (Suspended client left) gives = phase_of_result left.phase result gives.result
 
 comes_ended : (kernel : Kernel) (slot : ℕ) (result : CallResult) (exited : Exited) → ComesTo kernel slot result exited
     → IsEnded exited.kernel slot
 comes_ended kernel slot result exited comes = record {
   held = comes.held;
   there = comes.there;
-  ended = gives_ended comes.call.arg result exited.writes comes.held comes.gives;
+  ended = gives_ended comes.call result exited.writes comes.held comes.gives;
 }
 
 -- ---- of a call that has its result

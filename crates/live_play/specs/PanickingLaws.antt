@@ -50,12 +50,21 @@ result_in (Asks job wanted payload) = None
 result_in (Waits params) = None
 result_in (Ends result params told wakes) = Some result
 
--- behind an exit that wrote this, a slot holds the call whose argument lies there, with this result; or the result was written to the
--- argument, and the slot is free
-abbrev pub GivesResult : ℕ → CallResult → List Write → ThreadSlot → Type 0
-GivesResult arg result writes Free = writes ≡ word32 (ret_at arg) result.result ∷ word32 (origin_at arg) result.origin ∷ []
-GivesResult arg result writes (Active worker call) = ⊥
-GivesResult arg result writes (Suspended client call) = (call.arg ≡ arg) × (result_in call.phase ≡ Some result)
+-- a call that is left to this client is the one that was carried, of the same client and session and with the same argument,
+-- and has this result
+pub record IsLeftWith (carried : PendingCall) (given : CallResult) (to : ℕ) (left : PendingCall) : Type 0 where
+  pub client : to ≡ carried.client
+  pub session : left.session ≡ carried.session
+  pub arg : left.arg ≡ carried.arg
+  pub result : result_in left.phase ≡ Some given
+
+-- behind an exit that wrote this, a slot holds the call that was carried, with this result; or the result was written to the
+-- call's argument, and the slot is free
+abbrev pub GivesResult : PendingCall → CallResult → List Write → ThreadSlot → Type 0
+GivesResult carried result writes Free =
+    writes ≡ word32 (ret_at carried.arg) result.result ∷ word32 (origin_at carried.arg) result.origin ∷ []
+GivesResult carried result writes (Active worker call) = ⊥
+GivesResult carried result writes (Suspended client left) = IsLeftWith carried result client left
 
 -- TEE_ERROR_TARGET_DEAD, of the TEE
 abbrev pub result_of_panic : CallResult
@@ -68,7 +77,7 @@ pub record ComesTo (kernel : Kernel) (slot : ℕ) (result : CallResult) (exited 
   pub was : slice_get kernel.slots slot ≡ Some (Active worker call)
   pub held : ThreadSlot
   pub there : slice_get exited.kernel.slots slot ≡ Some held
-  pub gives : GivesResult call.arg result exited.writes held
+  pub gives : GivesResult call result exited.writes held
 
 pub record PanicsEndCalls : Type 0 where
   -- behind the exit at which a panic is told, its call has ended

@@ -78,7 +78,8 @@ pub fn copies_are_ram()
     ensures { CopiesAreRam }
 {}
 
-/// Behind the exit at which a panic is told its call has ended, with the result of a panic, and of a call that has ended none is told.
+/// Behind the exit at which a panic is told that very call has ended, with the result of a panic, and of a call that has ended
+/// none is told.
 pub fn panics_end_calls()
     ensures { PanicsEndCalls }
 {}

@@ -56,10 +56,10 @@
 //!   was watched (`copies_are_ram`). It is kept by the bytes of the header, then by those of each line `write` that
 //!   counts and of each line `wrote`.
 //!
-//! Behind an exit at which a panic is told its call has ended, with TEE_ERROR_TARGET_DEAD of the TEE: its slot holds it
-//! with that result, or the result was written, and the slot is free. Of a call that has ended none is told
-//! (`panics_end_calls`). Whatever comes then, it has ended still, until it leaves its slot (`ended_calls_stay`): so each
-//! panic is told once.
+//! Behind an exit at which a panic is told its call has ended, with TEE_ERROR_TARGET_DEAD of the TEE: its slot holds it,
+//! a call of the same client and session and with the same argument, with that result, or the result was written to that
+//! argument, and the slot is free. Of a call that has ended none is told (`panics_end_calls`). Whatever comes then, it has
+//! ended still, until it leaves its slot (`ended_calls_stay`): so each panic is told once.
 //!
 //! Its examples are conversations, byte for byte, and their ends. `status_of` is the status of the definitions.
 #![tactic(auto)]
