@@ -170,10 +170,10 @@ signalled b [] signal = and_false b
 signalled b (first ∷ signals) signal = and_false b
 
 -- the item that a line adds
-added_item : (items : List Item) (i : Item) → slice_get (drop (length items) (items ++ i ∷ [])) 0 ≡ Some i
+pub added_item : (items : List Item) (i : Item) → slice_get (drop (length items) (items ++ i ∷ [])) 0 ≡ Some i
 added_item items i = ap (λ (l : List Item). slice_get l 0) (drop-append_seam items (i ∷ []))
 
-added_none : (items : List Item) → slice_get (drop (length items) items) 0 ≡ None
+pub added_none : (items : List Item) → slice_get (drop (length items) items) 0 ≡ None
 added_none items = ap (λ (l : List Item). slice_get l 0) (drop_all (length items) items (omega arith))
 
 abbrev copy_by : Platform → NotifyFront → Option Item → List Wrote → List (List ℕ) → Bool → List (List ℕ)

@@ -16,3 +16,4 @@ pub mod Traces
 pub mod Unasked
 pub mod Watched
 pub mod Widening
+pub mod ShownAlike

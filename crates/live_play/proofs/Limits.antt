@@ -155,7 +155,7 @@ event_wide more boot event play = by (after_event boot play.kernel event)
     by None = refl
     by (Some next) = refl
 
-abbrev refused_of : Option Play → Option ℕ
+abbrev pub refused_of : Option Play → Option ℕ
 refused_of o = option_and_then (λ (play : Play). play.refused) o
 
 few_still : (most more count : ℕ) → most ≤ more → nat_lt most count ≡ false → nat_lt more count ≡ false
@@ -183,7 +183,7 @@ reads_wide more boot play visit reads false le is going =
     (few_still play.most_bytes more (copied_bytes play.history + total_bytes reads) le is)
     ∙ event_wide more boot (entry_event visit reads) play
 
-enters_wide : (more : ℕ) (boot : Booted) (play : Play) (visit : Visit) → play.most_bytes ≤ more
+pub enters_wide : (more : ℕ) (boot : Booted) (play : Play) (visit : Visit) → play.most_bytes ≤ more
     → refused_of (enters boot play visit) ≡ None
     → enters boot (wide_play more play) visit ≡ option_map (wide_play more) (enters boot play visit)
 enters_wide more boot play visit le going = by (reads_of boot play visit) going
@@ -227,10 +227,10 @@ unless_wide more onward told (Some count) is goes =
     ∙ sym (ap (λ (o : Option ℕ). option_map (wide more) (option_map_or (λ k. Some told) o (onward told))) is)
 
 -- where an entry wasn't refused
-abbrev comes_by : NotifyPlay → Option Play → Option NotifyPlay
+abbrev pub comes_by : NotifyPlay → Option Play → Option NotifyPlay
 comes_by told o = option_map (with_play told) o
 
-comes_wide : (more : ℕ) (told : NotifyPlay) (o : Option Play)
+pub comes_wide : (more : ℕ) (told : NotifyPlay) (o : Option Play)
     → comes_by (wide more told) (option_map (wide_play more) o) ≡ option_map (wide more) (comes_by told o)
 comes_wide more told None = refl
 comes_wide more told (Some play) = refl
@@ -240,10 +240,10 @@ not_refused told None going = refl
 not_refused told (Some play) going = going
 
 -- an entry and its exit
-abbrev visits : Booted → Drivers → ℕ → Option NotifyPlay → Option NotifyPlay
+abbrev pub visits : Booted → Drivers → ℕ → Option NotifyPlay → Option NotifyPlay
 visits boot drivers cpu o = option_and_then (unless_refused (goes_out boot drivers cpu)) o
 
-visited : (boot : Booted) (drivers : Drivers) (cpu : ℕ) (told : NotifyPlay) (o : Option Play)
+pub visited : (boot : Booted) (drivers : Drivers) (cpu : ℕ) (told : NotifyPlay) (o : Option Play)
     → refused_by (visits boot drivers cpu (comes_by told o)) ≡ None → refused_of o ≡ None
 visited boot drivers cpu told None going = refl
 visited boot drivers cpu told (Some play) going = by play.refused going

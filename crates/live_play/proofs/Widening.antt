@@ -1,6 +1,6 @@
 -- A conversation in which no entry is refused is the same where entries may read more.
-use Rattle.std.proofs.Common.{◌≡◌, ℕ, ◌^◌, ◌≤◌, Bool, true, false, List, [], ◌∷◌, length, drop, Option, Some, None, refl, sym, ap, ◌∙◌}
-use Rattle.std.specs.Prelude.{filter, if◌then◌else◌, not}
+use Rattle.std.proofs.Common.{◌≡◌, ℕ, ◌≤◌, true, List, [], ◌∷◌, length, drop, Option, Some, None, refl, sym, ap, ◌∙◌}
+use Rattle.std.specs.Prelude.{if◌then◌else◌, not}
 use Rattle.std.specs.Option.{option_map, option_map_or}
 use Rattle.std.proofs.lemmas.Bool.{and_parts}
 use Rattle.event_journal.specs.Journal.{copied_bytes}
@@ -8,17 +8,16 @@ use Rattle.kernel_model.specs.Application.{booted}
 use Rattle.line_port.specs.History.{Input}
 use Rattle.line_port.specs.History as heard
 use Rattle.notify_play.specs.NotifyPlay.{NotifyPlay}
-use Rattle.notify_text.specs.Rules.{NotifyFront, after_line, no_lines, notify_trace_in}
+use Rattle.notify_text.specs.Rules.{NotifyFront, after_line, notify_trace_in}
 use Rattle.notify_text.specs.Steps.{steps_of}
 use Rattle.ta_isa.specs.declared.boot.Boot.{Boot}
 use Rattle.trace_text.specs.declared.fault.BadKind.{BadKind}
 use Rattle.live_play.specs.Answer.{Answer, Done, Full, Platform, after_heard, answer, answer_between, fault_at, is_done, play_at, refused_at, with_heard, without_lines}
 use Rattle.live_play.specs.Conversation.{after_all, answers}
-use Rattle.live_play.specs.Showing.{first_position, position_behind, within}
-use Rattle.live_play.specs.ShowingLaws.{MoreBytesChangeNothing, is_full, is_plain, refuses_none}
-use Rattle.live_play.proofs.Forgetting.{history_off_forgets_alone}
+use Rattle.live_play.specs.Showing.{within}
+use Rattle.live_play.specs.ShowingLaws.{is_full, refuses_none}
 use Rattle.live_play.proofs.Limits.{steps_wide, wide}
-use Rattle.live_play.proofs.Talking.{IsStage, answer_by, answer_unless, printed_by, refused_by, stage-first, start, talked, with_boot, without_boot}
+use Rattle.live_play.proofs.Talking.{IsStage, answer_by, answer_unless, printed_by, refused_by, start, talked, with_boot, without_boot}
 
 module _ (on : Platform) (most more : ℕ) (le : most ≤ more) where
   abbrev small : Platform
@@ -83,7 +82,7 @@ module _ (on : Platform) (most more : ℕ) (le : most ≤ more) where
       between_wide before (after_line before line) stage.going
       (unrefused before (after_line before line) (refused_at small (after_line before line)) none)
 
-  answer_wide : (before : NotifyFront) (input : Input) → IsStage small before
+  pub answer_wide : (before : NotifyFront) (input : Input) → IsStage small before
       → not (is_full (answer small before input).ending) ≡ true → answer large before input ≡ answer small before input
   answer_wide before (heard.Line line) stage none = line_wide before line (fault_at small before line) stage none
   answer_wide before heard.Long stage none = refl
@@ -111,24 +110,3 @@ module _ (on : Platform) (most more : ℕ) (le : most ≤ more) where
             ∙ ap (λ (given : List Answer). answer small before input ∷ given) rest.given;
         lines = ap (λ (f : NotifyFront). after_all large f inputs) counts ∙ rest.lines;
       }
-
--- ---- the law
-
--- whether history is off or not
-either : (on : Platform) (inputs : List Input) (forgets : Bool) → on.most_bytes ≤ 2 ^ 63
-    → refuses_none (answers on no_lines inputs) ≡ true
-    → after_all (within on (if forgets then 2 ^ 63 else on.most_bytes)) no_lines inputs ≡ after_all on no_lines inputs
-either on inputs true le none = (same on on.most_bytes (2 ^ 63) le no_lines inputs (stage-first on) none).lines
-either on inputs false le none = refl
-
-pub more_bytes_change_nothing : MoreBytesChangeNothing
-more_bytes_change_nothing = record {
-  played = λ on most more lines told le is going.
-      played_wide on most more le lines (ap refused_by is ∙ going) ∙ ap (option_map (wide more)) is;
-  answered = λ on most more inputs le none.
-      let all = same on most more le no_lines inputs (stage-first (within on most)) none in
-      (all.given, all.lines);
-  either = λ on inputs le none.
-      (history_off_forgets_alone.in_order on inputs).lines
-      ∙ either on (filter is_plain inputs) (position_behind on first_position inputs).lines.forgets le none;
-}

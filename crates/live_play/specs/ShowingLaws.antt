@@ -6,7 +6,7 @@ use Rattle.live_text.specs.Asking.{question_rules}
 use Rattle.live_text.specs.Rules.{LiveFront}
 use Rattle.live_text.specs.Scene.{scene_of}
 use Rattle.live_text.specs.declared.question.QuestionKind.{QuestionKind}
-use Rattle.live_text.specs.declared.question.QuestionKind.TheVariants.{Watch}
+use Rattle.live_text.specs.declared.question.QuestionKind.TheVariants.{Events, Watch}
 use Rattle.notify_play.specs.NotifyPlay.{NotifyPlay}
 use Rattle.notify_text.specs.Rules.{NotifyFront, no_lines}
 use Rattle.ns_ram.specs.Writes.{lane_after}
@@ -131,6 +131,18 @@ pub record MoreBytesChangeNothing : Type 0 where
   pub either : (on : Platform) (inputs : List Input) → on.most_bytes ≤ 2 ^ 63 →
       refuses_none (answers on no_lines (filter is_plain inputs)) ≡ true →
       (position_behind on first_position inputs).lines.told ≡ after_all on no_lines (filter is_plain inputs)
+  -- to a further one, whose entry isn't refused either, the same is shown as without the lines that turn history off, with the
+  -- panics and the lines `wrote` of exits that are watched
+  pub shown : (on : Platform) (inputs : List Input) (input : Input) → on.most_bytes ≤ 2 ^ 63 →
+      refuses_none (answers on no_lines (filter is_plain inputs)) ≡ true → is_plain input ≡ true →
+      is_full (answer on (after_all on no_lines (filter is_plain inputs)) input).ending ≡ false →
+      shown_to on (position_behind on first_position inputs) input
+      ≡ shown_to on (position_behind on first_position (filter keeps_history inputs)) input
+  -- so it is to a question, but to one for events, which are told where history is kept alone
+  pub asked : (on : Platform) (inputs : List Input) (input : Input) (kind : QuestionKind) → on.most_bytes ≤ 2 ^ 63 →
+      refuses_none (answers on no_lines (filter is_plain inputs)) ≡ true → kind_asked_by input ≡ Some kind → (kind ≡ Events → ⊥) →
+      shown_to on (position_behind on first_position inputs) input
+      ≡ shown_to on (position_behind on first_position (filter keeps_history inputs)) input
 
 -- ---- a conversation in which nothing asks, and no line turns history off
 
@@ -153,8 +165,8 @@ answer_of_exit cpu regs = record { lines = Ret cpu regs ∷ []; ending = Done }
 abbrev pub TellsOneExitAtMost : Answer → Type 0
 TellsOneExitAtMost given = (returns_in given.lines ≡ []) ⊎ ((cpu : ℕ) × (regs : List ℕ) × (given ≡ answer_of_exit cpu regs))
 
--- behind the line of an exit stands the panic in which its call has ended, if it did, and then what has changed in the processor's
--- RAM
+-- behind the line of an exit stands the panic in which its call has ended, if it did, and then what has changed in the
+-- processor's RAM
 abbrev pub IsWatched : Platform → NotifyFront → Input → ℕ → List ℕ → Type 0
 IsWatched on before input cpu regs =
     watched_answer on before (after_heard on before input) (answer on before input)

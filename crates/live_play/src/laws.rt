@@ -51,13 +51,14 @@ pub fn refused_lines_change_nothing()
     ensures { RefusedLinesChangeNothing }
 {}
 
-/// A line `history off` changes how much entries may read, and whether events are told, and nothing of the lines that count: those
-/// of a trace with signals are answered as they are without it, up to that limit.
+/// A line `history off` changes how much entries may read, and whether events are told, and nothing of the lines that count:
+/// those of a trace with signals are answered as they are without it, up to that limit.
 pub fn history_off_forgets_alone()
     ensures { HistoryOffForgetsAlone }
 {}
 
-/// While no entry is refused, how much all entries may read changes nothing: so a conversation goes the same with history off.
+/// While no entry is refused, how much all entries may read changes nothing. So with history off the same lines of a trace
+/// with signals count, and the same is shown to each of them, exits watched or not, and to each question but one for events.
 pub fn more_bytes_change_nothing()
     ensures { MoreBytesChangeNothing }
 {}
@@ -72,8 +73,8 @@ pub fn exits_are_watched()
     ensures { ExitsAreWatched }
 {}
 
-/// Who keeps a copy of each processor's RAM by the bytes of the header, its own lines `write` and the lines `wrote` has the RAM that the
-/// core sees, behind each answer of a conversation in which each exit is watched.
+/// Who keeps a copy of each processor's RAM by the bytes of the header, its own lines `write` and the lines `wrote` has the RAM
+/// that the core sees, behind each answer of a conversation in which each exit is watched.
 pub fn copies_are_ram()
     ensures { CopiesAreRam }
 {}

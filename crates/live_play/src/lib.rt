@@ -43,8 +43,9 @@
 //! - `history off` changes how much entries may read, and whether events are told, and nothing of the lines that count:
 //!   those of a trace with signals count, and are answered, as they do alone where entries may read so much
 //!   (`history_off_forgets_alone`).
-//! - While no entry is refused it makes no difference how much they may read, so none whether history is off
-//!   (`more_bytes_change_nothing`).
+//! - While no entry is refused it makes no difference how much they may read (`more_bytes_change_nothing`). So it makes
+//!   none whether history is off: the same lines of a trace with signals count, and the same is shown to each of them,
+//!   with the panics and the lines `wrote` of exits that are watched, and to each question but one for events.
 //! - Where nothing asks or turns history off, all goes as without such lines (`plain_conversations_are_as_before`).
 //! - Behind the line of an exit that is watched stands the panic in which its call has ended, if it did, and then what
 //!   has changed in its processor's RAM (`exits_are_watched`). Laid over what that RAM was, this gives what it is, and
