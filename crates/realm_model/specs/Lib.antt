@@ -1,0 +1,4 @@
+pub mod Realm
+pub mod Reading
+pub mod Forgetting
+pub mod Examples
