@@ -1,2 +1,15 @@
 pub mod Sessions
 pub mod Groups
+pub mod Boots
+pub mod Kept
+pub mod OtherExits
+pub mod OtherCalls
+pub mod OtherEntries
+pub mod CallChanges
+pub mod Woken
+pub mod Ends
+pub mod Progress
+pub mod OwnExits
+pub mod FixedAnswers
+pub mod OtherResumes
+pub mod Interrupts

@@ -1,4 +1,6 @@
 pub mod Realm
 pub mod Reading
 pub mod Forgetting
+pub mod Tied
+pub mod Laws
 pub mod Examples

@@ -1,8 +1,9 @@
-//! A session or a group as a realm: those who share an instance, and one reader of what happens to them.
+//! A session or a group as a realm: those who share an instance, one reader of what happens to them, and one tie.
 //!
 //! The crate is one of definitions and laws. `specs/` reads in the order of its modules: `Realm` says who the members are, and
 //! all that differs between one session and all sessions of an application; `Reading` reads a realm's events and replies off
-//! the kernels that a history goes through; `Forgetting` says what a session's and a group's readings are of it.
+//! the kernels that a history goes through; `Forgetting` says what a session's and a group's readings are of it; `Tied` says
+//! when a kernel and the machine of a realm, which is that of a group, do the same next, by names of instances alone.
 //!
 //! Nothing here touches RAM, a port or a thread.
 //!
@@ -12,8 +13,18 @@
 //!   (`sessions_are_realms`), and what is noted of a group is what is noted of its realm (`groups_are_realms`).
 //! - On the worked histories of sessions the machine of a group answers to a session's events what the session was
 //!   answered (`worked_examples`).
+//! - As a kernel boots it is tied to the machine of each realm (`boots_are_tied`); tied they stay by a fixed answer
+//!   (`fixed_answers_keep_realms`), by an exit, a resume or a new call that isn't the realm's
+//!   (`exits_of_others_keep_realms`, `resumes_of_others_keep_realms`, `calls_of_others_keep_realms`), by an interrupt of
+//!   a call of the realm (`interrupts_keep_realms`) and by its other exits (`own_exits_keep_realms`).
 #![tactic(auto)]
 
 mod realms;
+mod ties;
 
 pub use realms::{groups_are_realms, sessions_are_realms, worked_examples};
+pub use ties::{
+    boots_are_tied, calls_of_others_keep_realms, exits_of_others_keep_realms,
+    fixed_answers_keep_realms, interrupts_keep_realms, own_exits_keep_realms,
+    resumes_of_others_keep_realms,
+};
