@@ -1,11 +1,13 @@
 -- A kernel that has booted is tied to the machine of each realm: no number was given on either side.
-use Rattle.std.proofs.Common.{◌≡◌, ℕ, zero, suc, [], Some, None, refl}
+use Rattle.std.proofs.Common.{◌≡◌, ℕ, zero, suc, List, [], Some, None, refl}
 use Rattle.std.specs.Prelude.{replicate}
 use Rattle.std.proofs.lemmas.List.Elements.{All-nil}
 use Rattle.session_table.specs.declared.waiters.Waiter.{Waiter}
 use Rattle.kernel_model.specs.Kernel.{Free, Instance, PendingCall}
 use Rattle.own_model.specs.Tied.{call_at}
-use Rattle.realm_model.specs.Laws.{BootsAreTied}
+use Rattle.group_model.specs.Group.{nobody_there}
+use Rattle.realm_model.specs.Realm.{AllSessions, OneSession, Realm}
+use Rattle.realm_model.specs.Laws.{AsRealm, BootsAreTied}
 use Rattle.realm_model.specs.Tied.{IsOfRealm}
 
 none_there : {P : Type 0} {X : Type 0} (x : X) → None ≡ Some x → P
@@ -15,6 +17,14 @@ none_in : (count slot : ℕ) (call : PendingCall) → call_at (replicate count F
 none_in zero slot call e = absurd cc
 none_in (suc count) zero call e = absurd cc
 none_in (suc count) (suc slot) call e = none_in count slot call e
+
+-- nor has one session an instance, or a machine in which anybody is
+nobody_yet : (realm : Realm) (key : List ℕ) → AsRealm realm 0 [] (nobody_there key)
+nobody_yet (OneSession member) key = record {
+  lone = λ first second own other has too. none_there own has;
+  fresh = λ none. (refl, refl);
+}
+nobody_yet (AllSessions app) key = tt
 
 pub boots_tied : BootsAreTied
 boots_tied boot about = record {
@@ -56,4 +66,5 @@ boots_tied boot about = record {
     };
     key = refl;
   };
+  as_realm = nobody_yet about.members.realm about.key;
 }

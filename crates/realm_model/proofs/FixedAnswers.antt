@@ -29,7 +29,7 @@ some_same a b e = cc
 away_tied : (about : About) (kernel : Kernel) (notes : Notes) (g : Group) (away : List ℕ)
     → AreTied about kernel.slots kernel.tables notes g
     → AreTied about kernel.slots kernel.tables (record notes { turned_away = away }) g
-away_tied about kernel notes g away at = record { instances = at.instances; tied = at.tied }
+away_tied about kernel notes g away at = record { instances = at.instances; tied = at.tied; as_realm = at.as_realm }
 
 silent_so : (about : About) (next : Kernel) (notes : Notes) (g : Group) (away : List ℕ)
     → AreTied about next.slots next.tables notes g
@@ -92,7 +92,7 @@ fixed_exit boot about kernel next cpu steps came regs answer notes g inside e ti
       noted = refl;
       then = g;
       replies = refl;
-      tied = record { instances = still.instances; tied = still.tied };
+      tied = record { instances = still.instances; tied = still.tied; as_realm = still.as_realm };
     })
     (goes_silently about notes g next still) in
     subst (λ (p : Option Processor). GoesAlong about notes g next (out_noted about.members.realm kernel notes cpu p))

@@ -96,6 +96,7 @@ left_running about kernel visit notes g slot number (Active worker call) progres
           instance_names = tied.instance_names;
           key = tied.key;
         };
+        as_realm = at.as_realm;
       };
       wakes_none = refl;
     } in

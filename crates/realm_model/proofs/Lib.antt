@@ -13,3 +13,9 @@ pub mod OwnExits
 pub mod FixedAnswers
 pub mod OtherResumes
 pub mod Interrupts
+pub mod Silent
+pub mod Seen
+pub mod LeftLine
+pub mod Room
+pub mod Onward
+pub mod OwnResumes

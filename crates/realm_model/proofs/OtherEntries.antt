@@ -131,6 +131,7 @@ other_call boot about kernel next cpu steps slot regs reads now notes g shares s
       instances = at.instances;
       tied = subst (λ (k : Kernel). Tied about.members names k.slots k.tables g) found.gives
           (taken_tied about.members names kernel visit slot found.taken g unnumbered at.tied takes);
+      as_realm = at.as_realm;
     } in
     let same : event_noted boot about.members.realm kernel next notes (Entry cpu regs steps reads) ≡ notes =
     new_call_noted boot about.members.realm kernel next cpu steps slot regs reads now notes inside found.free there

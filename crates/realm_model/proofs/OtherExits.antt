@@ -333,6 +333,7 @@ other_exit boot about kernel next cpu granted slot came regs notes g inside none
       instances = at.instances;
       tied = subst (λ (k : Kernel). Tied about.members names k.slots k.tables g) comes
           (left_tied about.members names kernel visit slot g found.0 none at.tied stays);
+      as_realm = at.as_realm;
     } in
     let same : event_noted boot about.members.realm kernel next notes (Exit cpu regs) ≡ notes =
     ap (λ (p : Option Processor). out_noted about.members.realm kernel notes cpu p) inside

@@ -347,6 +347,7 @@ other_resume boot about kernel next cpu steps regs reads call notes g waiters is
     let then_tied : AreTied about next.slots next.tables notes g = record {
       instances = at.instances;
       tied = subst (λ (k : Kernel). Tied about.members names k.slots k.tables g) (sym resumes.next_is) still;
+      as_realm = at.as_realm;
     } in
     let entering : Entering = record { kernel = kernel; next = next; visit = visit; reads = reads } in
     let watched : Watched = record { boot = boot; realm = about.members.realm; entering = entering } in

@@ -47,7 +47,7 @@ use Rattle.realm_model.proofs.CallChanges.{call_changes, call_goes}
 use Rattle.group_model.proofs.Ends.{one_there}
 use Rattle.group_model.proofs.InOrder.{InOrderGoing, going_so}
 use Rattle.group_model.proofs.OrderedChanges.{InLine, is_on}
-use Rattle.realm_model.proofs.Progress.{OwnThere, Place, comes_to, names_at}
+use Rattle.realm_model.proofs.Progress.{OwnThere, Place, comes_to, names_at, still_as}
 use Rattle.realm_model.proofs.Progress as progressed
 use Rattle.group_model.proofs.MoreSteps.{one_step}
 use Rattle.own_model.proofs.OwnExits.{AsksFor}
@@ -101,6 +101,8 @@ goes_along p visit own progress there g =
             (subst (λ (n : Numbering). Tied p.about.members (with_numbering (names_at p) n)
             (slice_set p.kernel.slots p.slot (slot_left progress.call g.leaving))
             (tables_left progress.tables p.slot (slot_left progress.call g.leaving)) g.final) (sym g.numbers) g.tied);
+        as_realm = still_as p.about.members.realm p.notes.next_session p.instances p.group g.final p.number own there
+            p.as_realm;
       };
     })
   where
@@ -558,6 +560,7 @@ own_exit boot about kernel next cpu granted slot number came regs progress notes
       group = g;
       slot = slot;
       number = number;
+      as_realm = at.as_realm;
     } in
     let goes : exit kernel cpu ≡ Some (goes_out_from kernel visit slot progress) =
     ap (λ (o : Option Processor). option_and_then (exit_of kernel cpu) o) inside

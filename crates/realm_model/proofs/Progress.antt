@@ -31,12 +31,13 @@ use Rattle.own_model.proofs.OwnChanges.{some_number}
 use Rattle.own_model.proofs.OwnWakes.{KeepsWake, keeps_shown, keeps_told}
 use Rattle.own_model.specs.Own.{wake_kept, wake_of, with_wake}
 use Rattle.own_model.specs.Tied.{HoldersAlike, IsFurther, PhasesAlike, WakesAlike, WasTold}
-use Rattle.group_model.specs.Group.{Going, Group, GroupCall, GroupSession, gives_back, going_in, sessions_ended}
+use Rattle.group_model.specs.Group.{Going, Group, GroupCall, GroupSession, gives_back, going_in, nobody_there, sessions_ended}
 use Rattle.group_model.specs.Group.{sessions_panicked, sessions_unrun, shows, stopped, taken_on}
 use Rattle.group_model.specs.Group as machine
 use Rattle.realm_model.specs.Reading.{Notes}
 use Rattle.group_model.specs.InOrder.{Fits, IsInOrder}
-use Rattle.realm_model.specs.Laws.{About, names_of}
+use Rattle.realm_model.specs.Realm.{AllSessions, OneSession, Realm}
+use Rattle.realm_model.specs.Laws.{About, AsRealm, names_of}
 use Rattle.group_model.specs.Tied.{AreasAlike, CallsAlike, HomesAlike, IsTold, Names}
 use Rattle.realm_model.specs.Tied.{Tied}
 use Rattle.realm_model.proofs.CallChanges.{tables_change}
@@ -58,6 +59,19 @@ pub record Place : Type 0 where
   pub group : Group
   pub slot : ℕ
   pub number : ℕ
+  pub as_realm : AsRealm about.members.realm notes.next_session instances group
+
+-- where a call is there the open has come, so that the machine may change
+pub still_as : (realm : Realm) (next_session : ℕ) (instances : NumberMap ℕ) (g then : Group) (number : ℕ) (own : GroupCall)
+    → get g.calls number ≡ Some own → AsRealm realm next_session instances g → AsRealm realm next_session instances then
+still_as (OneSession member) next_session instances g then number own there one = record {
+  lone = one.lone;
+  fresh = λ none. absurd (nobody (one.fresh none).0);
+}
+  where
+    nobody : g ≡ nobody_there g.key → ⊥
+    nobody is = let no : None ≡ Some own = sym (ap (λ (x : Group). get x.calls number) is) ∙ there in absurd cc
+still_as (AllSessions app) next_session instances g then number own there one = tt
 
 abbrev pub names_at : Place → Names
 names_at p = names_of p.about p.notes p.instances

@@ -1,5 +1,5 @@
 -- What holds of a kernel and the machine of a realm at an event.
-use Rattle.std.specs.Prelude.{◌≡◌, ℕ, ◌≤◌, true, false, List, ◌++◌, Option, Some, None, filter_map, map, slice_get}
+use Rattle.std.specs.Prelude.{◌≡◌, ℕ, ◌≤◌, true, false, List, [], ◌++◌, Option, Some, None, filter_map, map, slice_get}
 use Rattle.base.specs.NumberMap.{IsRising, NumberMap, get}
 use Rattle.event_journal.specs.declared.event.Event.{Event}
 use Rattle.event_journal.specs.declared.event.Event.TheVariants.{Entry, Exit}
@@ -13,12 +13,17 @@ use Rattle.kernel_model.specs.Argument.{IsNew, reg, thread_in}
 use Rattle.kernel_model.specs.Exit.{progress_in_slot}
 use Rattle.kernel_model.specs.History.{after_event}
 use Rattle.kernel_model.specs.Instances.{app_of, is_single}
-use Rattle.kernel_model.specs.Kernel.{Active, Fixed, InSlot, Inside, Kernel, PendingCall, Progress, Tables, ThreadSlot, first_kernel}
+use Rattle.kernel_model.specs.Kernel.{Active, Fixed, InSlot, Inside, Kernel, PendingCall, Progress, Tables, ThreadSlot}
+use Rattle.kernel_model.specs.Kernel.{Waits, first_kernel}
 use Rattle.kernel_model.specs.Leaving.{Interrupted, leaving_of}
 use Rattle.kernel_model.specs.Resume.{call_resumed_by}
 use Rattle.kernel_model.specs.Sound.{call_at}
+use Rattle.kernel_model.specs.SoundCalls.{AreJoined}
 use Rattle.kernel_model.specs.SoundWaiters.{AreWaiters}
-use Rattle.group_model.specs.Group.{Group, nobody_there, run}
+use Rattle.ta_params.specs.declared.copied_params.CopiedParams.{CopiedParams}
+use Rattle.job_model.specs.declared.call_kind.CallKind.TheVariants as kind
+use Rattle.group_model.specs.Resumes.{IsAwaitedAlone}
+use Rattle.group_model.specs.Group.{Group, GroupCall, nobody_there, run}
 use Rattle.group_model.specs.InOrder.{IsInOrder}
 use Rattle.group_model.specs.Laws.{IsSound}
 use Rattle.group_model.specs.Tied.{Names}
@@ -26,7 +31,7 @@ use Rattle.group_model.specs.declared.group_event.GroupEvent.{GroupEvent}
 use Rattle.group_model.specs.declared.group_reply.GroupReply.{GroupReply}
 use Rattle.realm_model.specs.Realm.{AllSessions, OneSession, Realm}
 use Rattle.realm_model.specs.Reading.{Logged, Notes, event_noted, event_of, no_notes, of_machine}
-use Rattle.realm_model.specs.Tied.{Members, Tied}
+use Rattle.realm_model.specs.Tied.{HasAll, Members, Tied}
 
 -- ---- what is tied
 
@@ -46,10 +51,21 @@ names_of about notes instances = record {
   key = about.key;
 }
 
+-- one session has one instance; and before its open has come, with the next number still 0, nobody is there
+pub record IsAsOne (next_session : ℕ) (instances : NumberMap ℕ) (g : Group) : Type 0 where
+  pub lone : (first second own other : ℕ) → get instances first ≡ Some own → get instances second ≡ Some other →
+      first ≡ second
+  pub fresh : next_session ≡ 0 → (g ≡ nobody_there g.key) × (instances ≡ [])
+
+abbrev pub AsRealm : Realm → ℕ → NumberMap ℕ → Group → Type 0
+AsRealm (OneSession member) next_session instances g = IsAsOne next_session instances g
+AsRealm (AllSessions app) next_session instances g = Unit {0}
+
 -- slots and tables are tied to the machine by what was noted and some numbers of the instances
 pub record AreTied (about : About) (slots : List ThreadSlot) (tables : Tables) (notes : Notes) (g : Group) : Type 0 where
   pub instances : NumberMap ℕ
   pub tied : Tied about.members (names_of about notes instances) slots tables g
+  pub as_realm : AsRealm about.members.realm notes.next_session instances g
 
 -- what of it happens to the machine, and what is answered to that
 abbrev pub events_in : List Logged → List GroupEvent
@@ -82,6 +98,23 @@ SharesAs (AllSessions of) app = (is_single app ≡ true) × (of ≡ app)
 pub record IsRealm (boot : Booted) (members : Members) : Type 0 where
   pub of_boot : app_of boot (uuid_of members.app) ≡ Some members.app
   pub shares : SharesAs members.realm members.app
+
+-- it is one session
+abbrev pub IsOne : Realm → Type 0
+IsOne (OneSession member) = Unit {0}
+IsOne (AllSessions app) = ⊥
+
+-- no open among these calls waits
+abbrev pub OpensRun : NumberMap GroupCall → Type 0
+OpensRun calls = (number : ℕ) (own : GroupCall) (params : CopiedParams) → get calls number ≡ Some own →
+    own.kind ≡ kind.Open → own.phase ≡ Waits params → ⊥
+
+-- how the calls of each kernel that a legal history comes to fit their sessions and instances, and those that wait
+pub record AreFitting (members : Members) (kernel : Kernel) : Type 0 where
+  pub joined : AreJoined (call_at kernel.slots) kernel.tables
+  pub waiters : AreWaiters (call_at kernel.slots) kernel.tables.waiters
+  pub alone : HasAll members.realm → IsAwaitedAlone members.app kernel
+  pub rising : IsRising kernel.tables.sessions
 
 -- ---- laws
 
@@ -146,4 +179,16 @@ OtherResumesKeepTied =
     (call : PendingCall) (notes : Notes) (g : Group) → AreWaiters (call_at kernel.slots) kernel.tables.waiters →
     call_of (reg regs.a 0) ≡ Resume → call_resumed_by kernel.slots regs.a ≡ Some call →
     get notes.numbering.in_slots (thread_in regs.a) ≡ None →
+    GoesAlongWith boot about kernel next (Entry cpu regs steps reads) notes g
+
+-- with a resume of a call of the realm: the machine's call sees that it was cancelled, is told whether there is room where
+-- its instance is gone, and is given the same. One session's open never waits
+abbrev pub OwnResumesKeepTied : Type 0
+OwnResumesKeepTied =
+    (boot : Booted) (about : About) (kernel next : Kernel) (cpu steps number : ℕ) (regs : Regs) (reads : List Read)
+    (call : PendingCall) (notes : Notes) (g : Group) →
+    IsRealm boot about.members → about.key ≡ boot.key → AreFitting about.members kernel →
+    (IsOne about.members.realm → OpensRun g.calls) →
+    call_of (reg regs.a 0) ≡ Resume → call_resumed_by kernel.slots regs.a ≡ Some call →
+    get notes.numbering.in_slots (thread_in regs.a) ≡ Some number → IsInOrder g →
     GoesAlongWith boot about kernel next (Entry cpu regs steps reads) notes g

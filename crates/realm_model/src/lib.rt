@@ -16,7 +16,8 @@
 //! - As a kernel boots it is tied to the machine of each realm (`boots_are_tied`); tied they stay by a fixed answer
 //!   (`fixed_answers_keep_realms`), by an exit, a resume or a new call that isn't the realm's
 //!   (`exits_of_others_keep_realms`, `resumes_of_others_keep_realms`, `calls_of_others_keep_realms`), by an interrupt of
-//!   a call of the realm (`interrupts_keep_realms`) and by its other exits (`own_exits_keep_realms`).
+//!   a call of the realm (`interrupts_keep_realms`) and by its other exits and resumes
+//!   (`own_exits_keep_realms`, `own_resumes_keep_realms`).
 #![tactic(auto)]
 
 mod realms;
@@ -26,5 +27,5 @@ pub use realms::{groups_are_realms, sessions_are_realms, worked_examples};
 pub use ties::{
     boots_are_tied, calls_of_others_keep_realms, exits_of_others_keep_realms,
     fixed_answers_keep_realms, interrupts_keep_realms, own_exits_keep_realms,
-    resumes_of_others_keep_realms,
+    own_resumes_keep_realms, resumes_of_others_keep_realms,
 };

@@ -1,6 +1,6 @@
 //! What leaves a kernel and the machine of a realm tied.
 ghost use Rattle.realm_model.specs.Laws.{BootsAreTied, FixedKeepTied, InterruptsKeepTied, OtherCallsKeepTied};
-ghost use Rattle.realm_model.specs.Laws.{OtherExitsKeepTied, OtherResumesKeepTied, OwnExitsKeepTied};
+ghost use Rattle.realm_model.specs.Laws.{OtherExitsKeepTied, OtherResumesKeepTied, OwnExitsKeepTied, OwnResumesKeepTied};
 
 /// As it boots a kernel is tied to the machine of each realm, in which nobody is there.
 pub fn boots_are_tied()
@@ -38,4 +38,10 @@ pub fn interrupts_keep_realms()
 /// goes out with the same.
 pub fn own_exits_keep_realms()
     ensures { OwnExitsKeepTied }
+{}
+
+/// So does a resume of a call of the realm: the machine's call sees that it was cancelled, is told whether there is room where
+/// its instance is gone, and is given the same.
+pub fn own_resumes_keep_realms()
+    ensures { OwnResumesKeepTied }
 {}
