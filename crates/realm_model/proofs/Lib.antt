@@ -19,3 +19,12 @@ pub mod LeftLine
 pub mod Room
 pub mod Onward
 pub mod OwnResumes
+pub mod GrownNames
+pub mod Waits
+pub mod Begins
+pub mod Members
+pub mod WaitingCalls
+pub mod SettledCalls
+pub mod BegunCalls
+pub mod MadeCalls
+pub mod OwnEntries

@@ -47,7 +47,9 @@ use Rattle.realm_model.specs.Realm.{AllSessions, OneSession, Realm, number_in, o
 use Rattle.realm_model.specs.Reading.{Notes, event_of}
 use Rattle.group_model.specs.declared.group_event.GroupEvent.{GroupEvent}
 use Rattle.group_model.specs.declared.group_event.GroupEvent.TheVariants as event
-use Rattle.realm_model.specs.Laws.{About, SharesAs, names_of}
+use Rattle.own_model.proofs.BelowNumbers.{AreBelow}
+use Rattle.own_model.specs.Tied.{call_at}
+use Rattle.realm_model.specs.Laws.{About, AsRealm, SharesAs, names_of}
 use Rattle.group_model.specs.Line.{AreNames}
 use Rattle.group_model.specs.Tied.{IsOther, Names}
 use Rattle.realm_model.specs.Tied.{AreMembers, HasAll, IsOfRealm, Members, Tied, waiting_of}
@@ -60,11 +62,16 @@ use Rattle.group_model.proofs.NewForms.{NewForms, Passes}
 pub record Within (about : About) (notes : Notes) (slots : List ThreadSlot) (g : Group) (c : NewCall) : Type 0 where
   pub of_boot : app_of c.boot (uuid_of about.members.app) ≡ Some about.members.app
   pub shares : SharesAs about.members.realm about.members.app
+  pub from_one : 0 < c.tables.next_session
+  pub below : (slot : ℕ) (call : PendingCall) → call_at slots slot ≡ Some call → call.session < c.tables.next_session
+  pub numbers : AreBelow slots c.tables
+  pub sessions_rising : IsRising c.tables.sessions
   pub rising : IsRising c.tables.instances
   pub free : slice_get slots c.slot ≡ Some Free
   pub none : get notes.numbering.in_slots c.slot ≡ None
   pub instances : NumberMap ℕ
   pub tied : Tied about.members (names_of about notes instances) slots c.tables g
+  pub as_realm : AsRealm about.members.realm notes.next_session instances g
 
 -- where nothing is noted of the call, it is another's, and the tables keep what is the realm's
 pub record TakesOther (members : Members) (names : Names) (before : Tables) (taken : Taken) : Type 0 where

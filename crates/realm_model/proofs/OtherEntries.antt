@@ -10,7 +10,10 @@ use Rattle.kernel_model.specs.Entry.{after_decision}
 use Rattle.kernel_model.specs.Application.{Booted}
 use Rattle.kernel_model.specs.Kernel.{Active, Free, InSlot, Inside, Kernel, PendingCall, Processor, Tables, ThreadSlot, Visit}
 use Rattle.kernel_model.specs.Kernel.{cancelled_slots}
-use Rattle.kernel_model.specs.Located.{Located}
+use Rattle.kernel_model.specs.Located.{Located, cookie_of}
+use Rattle.own_model.proofs.BelowNumbers.{AreBelow, below_numbers}
+use Rattle.own_model.proofs.PinnedTables.{below_pinned}
+use Rattle.group_model.proofs.OwnEntries.{positive}
 use Rattle.ns_ram.specs.declared.read.Read.{Read}
 use Rattle.smc_abi.specs.declared.regs.Regs.{Regs}
 use Rattle.shm_registry.specs.Registered.{Registered}
@@ -67,16 +70,23 @@ abbrev pub within : (boot : Booted) (about : About) (kernel : Kernel) (notes : N
     → IsRealm boot about.members → IsSound kernel → AreTied about kernel.slots kernel.tables notes g
     → slice_get kernel.slots slot ≡ Some Free → (at : Located) (bytes : List ℕ)
     → Within about notes kernel.slots g (new_call_of boot kernel.tables regs slot at bytes)
-within boot about kernel notes g regs slot shares sound tied free at bytes = record {
-  of_boot = shares.of_boot;
-  shares = shares.shares;
-  rising = sound.order.instances;
-  free = free;
-  none = no_number about.members (names_of about notes tied.instances) kernel.slots kernel.tables g slot
-      (get notes.numbering.in_slots slot) refl free tied.tied;
-  instances = tied.instances;
-  tied = registered_else about.members (names_of about notes tied.instances) kernel.slots kernel.tables g _ tied.tied;
-}
+within boot about kernel notes g regs slot shares sound tied free at bytes =
+    let below : AreBelow kernel.slots kernel.tables = below_numbers kernel sound.numbers in
+    record {
+      of_boot = shares.of_boot;
+      shares = shares.shares;
+      from_one = positive kernel.tables.next_session below.session_from_one;
+      below = λ other call there. (below.calls other call there).0;
+      numbers = below_pinned kernel.slots kernel.tables (cookie_of at) slot below;
+      sessions_rising = sound.order.sessions.rising;
+      rising = sound.order.instances;
+      free = free;
+      none = no_number about.members (names_of about notes tied.instances) kernel.slots kernel.tables g slot
+          (get notes.numbering.in_slots slot) refl free tied.tied;
+      instances = tied.instances;
+      tied = registered_else about.members (names_of about notes tied.instances) kernel.slots kernel.tables g _ tied.tied;
+      as_realm = tied.as_realm;
+    }
 
 -- what is noted of it
 pub new_call_noted : (boot : Booted) (realm : Realm) (kernel next : Kernel) (cpu steps slot : ℕ) (regs : Regs)

@@ -21,6 +21,7 @@ use Rattle.kernel_model.specs.Sound.{call_at}
 use Rattle.kernel_model.specs.SoundCalls.{AreJoined}
 use Rattle.kernel_model.specs.SoundWaiters.{AreWaiters}
 use Rattle.ta_params.specs.declared.copied_params.CopiedParams.{CopiedParams}
+use Rattle.job_model.specs.declared.call_kind.CallKind.{CallKind}
 use Rattle.job_model.specs.declared.call_kind.CallKind.TheVariants as kind
 use Rattle.group_model.specs.Resumes.{IsAwaitedAlone}
 use Rattle.group_model.specs.Group.{Group, GroupCall, nobody_there, run}
@@ -116,6 +117,12 @@ pub record AreFitting (members : Members) (kernel : Kernel) : Type 0 where
   pub alone : HasAll members.realm → IsAwaitedAlone members.app kernel
   pub rising : IsRising kernel.tables.sessions
 
+-- how a call of one session comes: its open comes first, and is of the application, and each other call comes behind it
+abbrev pub ComesAs : Realm → Application → Notes → PendingCall → CallKind → Type 0
+ComesAs (OneSession member) app notes call kind.Open = (call.uuid ≡ Some (uuid_of app)) × (notes.next_session ≡ 0)
+ComesAs (OneSession member) app notes call _ = get notes.sessions member ≡ Some 0
+ComesAs (AllSessions of) app notes call call_kind = Unit {0}
+
 -- ---- laws
 
 -- as the kernel boots its slots and tables are tied to the machine in which nobody is there
@@ -191,4 +198,15 @@ OwnResumesKeepTied =
     (IsOne about.members.realm → OpensRun g.calls) →
     call_of (reg regs.a 0) ≡ Resume → call_resumed_by kernel.slots regs.a ≡ Some call →
     get notes.numbering.in_slots (thread_in regs.a) ≡ Some number → IsInOrder g →
+    GoesAlongWith boot about kernel next (Entry cpu regs steps reads) notes g
+
+-- with a new call of the realm: the machine does the same with its event
+abbrev pub OwnCallsKeepTied : Type 0
+OwnCallsKeepTied =
+    (boot : Booted) (about : About) (kernel next : Kernel) (cpu steps slot : ℕ) (regs : Regs) (reads : List Read)
+    (now : PendingCall) (came : GroupEvent) (notes : Notes) (g : Group) → IsRealm boot about.members →
+    about.key ≡ boot.key → IsSound kernel → IsNew regs.a →
+    slice_get next.processors cpu ≡ Some (Inside regs.a steps (InSlot slot)) →
+    slice_get next.slots slot ≡ Some (Active cpu now) → ComesAs about.members.realm about.members.app notes now now.kind →
+    event_of about.members.realm next.tables notes now now.kind ≡ Some came →
     GoesAlongWith boot about kernel next (Entry cpu regs steps reads) notes g

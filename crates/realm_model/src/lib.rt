@@ -15,8 +15,8 @@
 //!   answered (`worked_examples`).
 //! - As a kernel boots it is tied to the machine of each realm (`boots_are_tied`); tied they stay by a fixed answer
 //!   (`fixed_answers_keep_realms`), by an exit, a resume or a new call that isn't the realm's
-//!   (`exits_of_others_keep_realms`, `resumes_of_others_keep_realms`, `calls_of_others_keep_realms`), by an interrupt of
-//!   a call of the realm (`interrupts_keep_realms`) and by its other exits and resumes
+//!   (`exits_of_others_keep_realms`, `resumes_of_others_keep_realms`, `calls_of_others_keep_realms`), by its new calls
+//!   (`own_calls_keep_realms`), by an interrupt of a call of the realm (`interrupts_keep_realms`) and by its other exits and resumes
 //!   (`own_exits_keep_realms`, `own_resumes_keep_realms`).
 #![tactic(auto)]
 
@@ -26,6 +26,6 @@ mod ties;
 pub use realms::{groups_are_realms, sessions_are_realms, worked_examples};
 pub use ties::{
     boots_are_tied, calls_of_others_keep_realms, exits_of_others_keep_realms,
-    fixed_answers_keep_realms, interrupts_keep_realms, own_exits_keep_realms,
-    own_resumes_keep_realms, resumes_of_others_keep_realms,
+    fixed_answers_keep_realms, interrupts_keep_realms, own_calls_keep_realms,
+    own_exits_keep_realms, own_resumes_keep_realms, resumes_of_others_keep_realms,
 };

@@ -1,6 +1,6 @@
 //! What leaves a kernel and the machine of a realm tied.
 ghost use Rattle.realm_model.specs.Laws.{BootsAreTied, FixedKeepTied, InterruptsKeepTied, OtherCallsKeepTied};
-ghost use Rattle.realm_model.specs.Laws.{OtherExitsKeepTied, OtherResumesKeepTied, OwnExitsKeepTied, OwnResumesKeepTied};
+ghost use Rattle.realm_model.specs.Laws.{OtherExitsKeepTied, OtherResumesKeepTied, OwnCallsKeepTied, OwnExitsKeepTied, OwnResumesKeepTied};
 
 /// As it boots a kernel is tied to the machine of each realm, in which nobody is there.
 pub fn boots_are_tied()
@@ -26,6 +26,12 @@ pub fn resumes_of_others_keep_realms()
 /// And a new call that isn't the realm's.
 pub fn calls_of_others_keep_realms()
     ensures { OtherCallsKeepTied }
+{}
+
+/// So does a new call of the realm, whatever its tests come to: the machine does the same with its event. The open of one
+/// session comes first, and ties nobody before.
+pub fn own_calls_keep_realms()
+    ensures { OwnCallsKeepTied }
 {}
 
 /// So does an exit from a call of the realm that is an interrupt: nothing happens to the machine, and the call's job is
