@@ -1,36 +1,30 @@
 -- What a call that comes in changes on both sides, step by step: it takes a free slot, it gets an instance, and an instance
 -- gets the next number. Each step leaves them tied.
 use Rattle.std.proofs.Common.{◌≡◌, ℕ, ◌+◌, ◌<◌, List, [], ◌∷◌, Option, Some, None, refl, ap, subst, sym, ◌∙◌}
-use Rattle.std.specs.Prelude.{All, IsSome, ◌==◌, cond, if◌then◌else◌, is_some, map, slice_get, slice_set}
-use Rattle.std.specs.Option.{option_and_then, option_map, option_map_or}
-use Rattle.std.proofs.lemmas.Bool.Decides.{Decides-eqb}
-use Rattle.std.proofs.lemmas.List.Elements.{All-cons, All-head, All-nil, All-tail}
+use Rattle.std.specs.Prelude.{All, IsSome, ◌==◌, cond, is_some, map, slice_get, slice_set}
+use Rattle.std.specs.Option.{option_and_then, option_map_or}
+use Rattle.std.proofs.lemmas.List.Elements.{All-head, All-tail}
 use Rattle.base.specs.NumberMap.{NumberMap, IsRising, get, insert}
 use Rattle.base.proofs.MapLemmas.{All-get, All-insert, none_above}
 use Rattle.job_model.specs.declared.call_kind.CallKind.{CallKind}
 use Rattle.job_model.specs.declared.call_kind.CallKind.TheVariants as kind
 use Rattle.session_table.specs.declared.session.Session.{Session}
 use Rattle.session_table.specs.declared.waiters.Waiter.{Waiter}
-use Rattle.shm_registry.specs.Registered.{Registered}
-use Rattle.kernel_model.specs.Application.{Application, uuid_of}
+use Rattle.kernel_model.specs.Application.{uuid_of}
 use Rattle.kernel_model.specs.Begin.{with_instance}
 use Rattle.kernel_model.specs.Kernel.{Active, Cancel, Free, Instance, PendingCall, Tables, ThreadSlot, cancelled_slots}
-use Rattle.kernel_model.specs.Sound.{unmarked}
 use Rattle.kernel_model.proofs.Parts.{set_other}
 use Rattle.kernel_model.proofs.SoundRising.{all_got}
 use Rattle.own_model.proofs.BelowNumbers.{AreBelow, IsBelow}
-use Rattle.own_model.proofs.Lookups.{apart_numbers}
 use Rattle.own_model.proofs.Maps.{get-insert-other, get-insert-same, get-inserted}
 use Rattle.own_model.proofs.OtherCalls.{less}
-use Rattle.own_model.proofs.OtherEntries.{cancels_mark}
-use Rattle.own_model.proofs.Others.{there_but_marked}
 use Rattle.own_model.specs.Own.{Numbering, next_in}
-use Rattle.own_model.specs.Tied.{FoundAlike, InstancesAlike, call_at, call_in}
+use Rattle.own_model.specs.Tied.{FoundAlike, InstancesAlike, call_in}
 use Rattle.group_model.specs.Group.{Group, GroupCall, GroupSession, GroupWaiter, comes_in}
 use Rattle.group_model.specs.Group as machine
 use Rattle.group_model.specs.Line.{AreKept, AreNames, AreTiedCalls}
 use Rattle.group_model.specs.Tied.{AreOthers, AreTiedSessions, CallsAlike, HomesAlike}
-use Rattle.group_model.specs.Tied.{IsOther, IsTold, Names, SessionsFoundAlike, found_at}
+use Rattle.group_model.specs.Tied.{IsTold, Names, SessionsFoundAlike, found_at}
 use Rattle.realm_model.specs.Tied.{IsOfRealm, Members, Tied}
 use Rattle.realm_model.specs.Tied.{waiting_of}
 use Rattle.group_model.proofs.Alike.{either}

@@ -5,7 +5,7 @@ use Rattle.std.proofs.Common.{◌∙◌, arith}
 use Rattle.std.specs.Prelude.{◌||◌, bytes_eq, if◌then◌else◌, is_some}
 use Rattle.std.specs.Option.{option_map, option_map_or}
 use Rattle.std.proofs.lemmas.Option.{option_and_then_some}
-use Rattle.base.specs.NumberMap.{NumberMap, IsRising-remove, get, insert, remove}
+use Rattle.base.specs.NumberMap.{NumberMap, IsRising-remove, get, remove}
 use Rattle.job_model.specs.Beginning.{OfImage, OfRelation, Program}
 use Rattle.job_model.specs.declared.call_kind.CallKind.{CallKind}
 use Rattle.job_model.specs.declared.call_kind.CallKind.TheVariants as kind
@@ -33,15 +33,15 @@ use Rattle.own_model.specs.Own.{next_in}
 use Rattle.own_model.specs.Parameters.{params_of}
 use Rattle.own_model.specs.Tied.{InstancesAlike}
 use Rattle.own_model.specs.declared.own_event.OwnInput.TheVariants.{Copied}
-use Rattle.group_model.specs.Group.{Coming, Group, GroupCall, Home, Opener, about_home, about_open, comes_in}
-use Rattle.group_model.specs.Group.{fresh_call, job_on, open_begins, silent, start_at, start_of_open, step}
+use Rattle.group_model.specs.Group.{Coming, Group, GroupCall, Home, about_home, about_open, comes_in}
+use Rattle.group_model.specs.Group.{fresh_call, job_on, silent, start_at, start_of_open, step}
 use Rattle.group_model.specs.Group as machine
 use Rattle.group_model.specs.Read.{invoke_event, open_event}
 use Rattle.realm_model.specs.Realm.{number_in}
 use Rattle.realm_model.specs.Reading.{Notes, numbered, with_event}
 use Rattle.group_model.specs.declared.group_event.GroupEvent.{GroupEvent}
 use Rattle.group_model.specs.declared.group_event.GroupEvent.TheVariants as event
-use Rattle.realm_model.specs.Laws.{About, AreTied, AsRealm, IsOne, names_of}
+use Rattle.realm_model.specs.Laws.{About, AreTied, AsRealm, IsOne, OpensRun, names_of}
 use Rattle.group_model.specs.Tied.{Names}
 use Rattle.realm_model.specs.Tied.{Tied}
 use Rattle.group_model.proofs.Alike.{held_alike, opened_same, sessions_removed}
@@ -57,7 +57,7 @@ use Rattle.realm_model.proofs.OtherCalls.{Within}
 use Rattle.realm_model.proofs.WaitingCalls.{AtHome, AtShared, ComesIn, areas_are, at_home, at_shared, dead_same, home_at, homes_are}
 use Rattle.realm_model.proofs.WaitingCalls.{same_app, some_same, taken_same, there_step}
 use Rattle.group_model.proofs.Waits.{with_next}
-use Rattle.group_model.proofs.BegunCalls.{Numbers, On, begun_on, begun_with, group_at, opener_of, own_begun, tables_at}
+use Rattle.group_model.proofs.BegunCalls.{Numbers, On, begun_with, group_at, opener_of, own_begun, tables_at}
 use Rattle.own_model.proofs.OwnCalls.{job_with, same_program}
 use Rattle.std.proofs.Common.{◌+◌}
 use Rattle.kernel_model.specs.Instances.{is_single}
@@ -66,7 +66,8 @@ use Rattle.kernel_model.specs.Decision.{Taken}
 use Rattle.group_model.specs.Group.{nobody_there}
 use Rattle.realm_model.specs.Tied.{HasAll}
 use Rattle.realm_model.proofs.Members.{GrowsAs, HasCome, all_of, as_all, as_come, come_before, members_grow, not_one, noted_runs}
-use Rattle.realm_model.proofs.Members.{number_named}
+use Rattle.realm_model.proofs.Members.{number_named, opens_of}
+use Rattle.realm_model.proofs.OpenRuns.{put}
 
 no_more : 0 ≤ 0
 no_more = omega arith
@@ -143,7 +144,8 @@ session_begins : (about : About) (notes : Notes) (slots : List ThreadSlot) (g : 
 session_begins about notes slots g c named number call_kind copies points own_points came w is has h key same come cpu = record {
   instances = w.instances;
   as_realm = as_come about.members.realm notes.sessions c.tables.next_session notes.next_session w.instances g _ come
-      w.tied.session_names w.as_realm;
+      w.tied.session_names w.as_realm
+      (λ one. put g.calls g.entered own (opens_of about.members.realm notes.next_session w.instances g w.as_realm one) (λ params kinds waits. cc));
   tied = registered_else about.members (with_next (names_of about notes w.instances) c.slot)
       (slots_with slots None c.slot cpu call) (with_instance c.tables named.0.instance (held_by c.slot named.1)) _
       (with_pins c begun.tables copies.cookies).registered
@@ -289,7 +291,7 @@ pub record AreBegun (about : About) (notes : Notes) (slots : List ThreadSlot) (g
   pub alike : InstancesAlike (next_in notes.numbering c.slot).in_slots on.kept on.own
   pub alone : HasNoOther g on.own_number
   pub jobs : on.job ≡ on.own_job
-  pub as_realm : (after_it : Group) → AsRealm about.members.realm (notes.next_session + 1) instances after_it
+  pub as_realm : (after_it : Group) → (IsOne about.members.realm → OpensRun after_it.calls) → AsRealm about.members.realm (notes.next_session + 1) instances after_it
 
 open_tied : (about : About) (notes : Notes) (slots : List ThreadSlot) (g : Group) (c : NewCall) (wanted : Opening)
     (copies : Copies) (numbers : Numbers) (on : On) (came : GroupEvent) → Within about notes slots g c
@@ -302,7 +304,8 @@ open_tied : (about : About) (notes : Notes) (slots : List ThreadSlot) (g : Group
     (own_begun g (opener_of c wanted) numbers on)
 open_tied about notes slots g c wanted copies numbers on came w b grows cpu = record {
   instances = b.instances;
-  as_realm = b.as_realm (own_begun g (opener_of c wanted) numbers on);
+  as_realm = b.as_realm (own_begun g (opener_of c wanted) numbers on)
+      (λ one. put g.calls g.entered own (opens_of about.members.realm notes.next_session w.instances g w.as_realm one) (λ params kinds waits. cc));
   tied = registered_else about.members (with_next names c.slot) (slots_with slots None c.slot cpu call)
       (with_instance tables on.number on.kept) _
       (opening_taken c wanted about.members.app copies (begun_with c numbers on)).tables.registered
@@ -462,7 +465,7 @@ kept_comes about notes slots g c wanted copies kept came w key passes shared fre
       };
       alone = no_other g h.number h.instance h.there;
       jobs = jobs;
-      as_realm = λ after_it. as_all about.members.realm (notes.next_session + 1) w.instances after_it all;
+      as_realm = λ after_it runs. as_all about.members.realm (notes.next_session + 1) w.instances after_it all;
     }
 
 pub opens_kept : (about : About) (notes : Notes) (slots : List ThreadSlot) (g : Group) (c : NewCall) (wanted : Opening)

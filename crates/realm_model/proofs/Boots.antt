@@ -22,6 +22,7 @@ none_in (suc count) (suc slot) call e = none_in count slot call e
 nobody_yet : (realm : Realm) (key : List ℕ) → AsRealm realm 0 [] (nobody_there key)
 nobody_yet (OneSession member) key = record {
   lone = λ first second own other has too. none_there own has;
+  runs = λ number own params there kinds waits. none_there own there;
   fresh = λ none. (refl, refl);
 }
 nobody_yet (AllSessions app) key = tt

@@ -3,20 +3,18 @@ use Rattle.std.proofs.Common.{◌≡◌, ℕ, List, [], ◌∷◌, Option, Some,
 use Rattle.std.specs.Prelude.{All, map, slice_get, slice_set}
 use Rattle.std.specs.Option.{option_and_then}
 use Rattle.std.proofs.lemmas.List.Elements.{All-head, All-tail}
-use Rattle.base.specs.NumberMap.{NumberMap, get, insert, remove}
+use Rattle.base.specs.NumberMap.{NumberMap, get, remove}
 use Rattle.session_table.specs.declared.waiters.Waiter.{Waiter}
 use Rattle.realm_model.specs.Tied.{Members}
 use Rattle.kernel_model.specs.Exit.{tables_left}
 use Rattle.kernel_model.specs.Kernel.{Free, Instance, PendingCall, Tables, ThreadSlot}
 use Rattle.kernel_model.proofs.Parts.{set_found, set_other}
 use Rattle.own_model.proofs.InOrder.{by_numbers}
-use Rattle.own_model.proofs.Maps.{get-insert-other, get-insert-same, get-inserted, get-remove-other, get-remove-same}
-use Rattle.own_model.proofs.Maps.{get-removed}
-use Rattle.own_model.proofs.OwnChanges.{some_number, is_another, found_stays}
-use Rattle.own_model.specs.Own.{Numbering}
+use Rattle.own_model.proofs.Maps.{get-remove-other}
+use Rattle.own_model.proofs.OwnChanges.{some_number, found_stays}
 use Rattle.own_model.specs.Tied.{call_at, call_in}
 use Rattle.group_model.specs.Group.{Group, GroupCall, GroupSession, GroupWaiter, with_call}
-use Rattle.group_model.specs.Line.{AreKept, AreNames, AreTiedCalls, HasNumber, IsTiedCall}
+use Rattle.group_model.specs.Line.{AreNames, HasNumber}
 use Rattle.group_model.specs.Tied.{AreOthers, AreTiedSessions, CallsAlike, IsTold}
 use Rattle.realm_model.specs.Tied.{AreTiedInstances, AreTiedWaiters}
 use Rattle.group_model.specs.Tied.{Names, found_at}

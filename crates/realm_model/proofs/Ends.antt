@@ -3,31 +3,25 @@ use Rattle.std.proofs.Common.{◌≡◌, ℕ, Bool, true, false, not, List, Opti
 use Rattle.std.specs.Prelude.{◌==◌, ◌&&◌, ◌||◌, if◌then◌else◌}
 use Rattle.std.specs.Option.{option_map_or}
 use Rattle.std.proofs.lemmas.Bool.Decides.{Decides-eqb}
-use Rattle.base.specs.NumberMap.{NumberMap, IsRising, IsRising-insert, IsRising-remove, get, insert, remove}
+use Rattle.base.specs.NumberMap.{NumberMap, get, insert, remove}
 use Rattle.base.proofs.MapLemmas.{All-get, All-insert, All-remove}
-use Rattle.job_model.specs.declared.call_kind.CallKind.{CallKind}
-use Rattle.job_model.specs.declared.call_kind.CallKind.TheVariants as kind
-use Rattle.job_model.specs.Steps.{End}
 use Rattle.session_table.specs.declared.session.Session.{Session}
-use Rattle.session_table.specs.Session.{opened_with}
-use Rattle.session_table.specs.Sessions.{settled}
 use Rattle.realm_model.specs.Tied.{Members}
-use Rattle.kernel_model.specs.Codes.{success}
 use Rattle.kernel_model.specs.Exit.{gives_back}
 use Rattle.kernel_model.specs.Instances.{instances_after}
 use Rattle.kernel_model.specs.Kernel.{Instance, PendingCall, Tables, ThreadSlot}
-use Rattle.kernel_model.specs.Sessions.{has_opened, sessions_after, sessions_after_panic, sessions_unrun}
+use Rattle.kernel_model.specs.Sessions.{has_opened}
 use Rattle.own_model.proofs.InOrder.{by_numbers}
-use Rattle.own_model.proofs.Maps.{get-insert-other, get-insert-same, get-inserted, get-remove-other, get-remove-same}
+use Rattle.own_model.proofs.Maps.{get-insert-other, get-insert-same, get-remove-other, get-remove-same}
 use Rattle.own_model.proofs.OwnEnds.{ChangesAlike}
 use Rattle.own_model.specs.Tied.{FoundAlike, InstancesAlike}
 use Rattle.group_model.specs.Group.{Group, GroupCall, GroupSession, instance_back}
 use Rattle.group_model.specs.Group as machine
-use Rattle.group_model.specs.Tied.{AreTiedSessions, HomesAlike, Names, SessionsAlike}
+use Rattle.group_model.specs.Tied.{Names}
 use Rattle.realm_model.specs.Tied.{AreTiedInstances, IsOfRealm}
-use Rattle.group_model.specs.Tied.{SessionsFoundAlike, found_at}
+use Rattle.group_model.specs.Tied.{found_at}
 use Rattle.realm_model.specs.Tied.{Tied}
-use Rattle.group_model.proofs.Alike.{AreApart, opened_same, sessions_removed}
+use Rattle.group_model.proofs.Alike.{AreApart, opened_same}
 use Rattle.realm_model.proofs.CallChanges.{tables_change}
 use Rattle.group_model.proofs.Ends.{NoOther, SessionsGo, one_there}
 

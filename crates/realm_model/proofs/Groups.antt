@@ -1,6 +1,6 @@
 -- What is noted of a group is what is noted of its realm.
 use Rattle.std.proofs.Common.{◌≡◌, ℕ, Bool, true, false, List, [], ◌∷◌, ◌++◌, Option, Some, None, refl, ap, sym, ◌∙◌}
-use Rattle.std.specs.Prelude.{◌==◌, ◌&&◌, filter, filter_map, if◌then◌else◌, map, not, slice_get}
+use Rattle.std.specs.Prelude.{◌==◌, ◌&&◌, filter_map, if◌then◌else◌, map, not, slice_get}
 use Rattle.std.specs.List.{list_any}
 use Rattle.std.specs.Option.{option_map_or}
 use Rattle.std.proofs.lemmas.List.{append-nil}
@@ -28,9 +28,9 @@ use Rattle.group_model.specs.Group.{plain}
 use Rattle.group_model.specs.Read.{finds_it_gone}
 use Rattle.group_model.specs.Read as group
 use Rattle.group_model.specs.declared.group_event.GroupEvent.{GroupEvent}
-use Rattle.group_model.specs.declared.group_event.GroupEvent.TheVariants.{Back, Out, Room, Seen}
+use Rattle.group_model.specs.declared.group_event.GroupEvent.TheVariants.{Out, Room, Seen}
 use Rattle.group_model.specs.declared.group_reply.GroupReply.{GroupReply}
-use Rattle.realm_model.specs.Realm.{AllSessions, Realm}
+use Rattle.realm_model.specs.Realm.{AllSessions}
 use Rattle.realm_model.specs.Reading.{Comes, Logged, Notes, TurnedAway, Watched, back_noted, entry_noted, errand_noted}
 use Rattle.realm_model.specs.Reading.{event_noted, event_of, exit_noted, noted, noted_from, numbered, of_machine, opened_in}
 use Rattle.realm_model.specs.Reading.{out_noted, resume_noted, room_noted, seen_noted, sessions_with, settled_event}

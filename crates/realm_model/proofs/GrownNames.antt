@@ -16,7 +16,7 @@ use Rattle.group_model.specs.Group.{Group, GroupCall, GroupSession, with_session
 use Rattle.group_model.specs.Line.{AreNames}
 use Rattle.group_model.specs.Tied.{AreTiedSessions, CallsAlike, HomesAlike, Names, SessionsAlike, SessionsFoundAlike}
 use Rattle.realm_model.specs.Tied.{AreMembers, Tied}
-use Rattle.group_model.proofs.Lines.{calls_weaker, less_on, next_is_more}
+use Rattle.group_model.proofs.Lines.{calls_weaker}
 use Rattle.group_model.proofs.GrownNames.{name_stays, names_grow, tables_with, with_next_session}
 
 -- ---- sessions

@@ -1,21 +1,16 @@
 -- What leaves a kernel and the machine of a realm tied: slots and tables may change where they aren't the realm's.
 use Rattle.std.proofs.Common.{◌≡◌, ℕ, List, Option, Some, None, ap, subst, sym, ◌∙◌}
 use Rattle.std.specs.Prelude.{All, map}
-use Rattle.std.specs.Option.{option_map}
-use Rattle.base.specs.NumberMap.{NumberMap, get}
+use Rattle.base.specs.NumberMap.{get}
 use Rattle.session_table.specs.declared.session.Session.{Session}
 use Rattle.session_table.specs.declared.waiters.Waiter.{Waiter}
 use Rattle.realm_model.specs.Tied.{Members}
-use Rattle.kernel_model.specs.Kernel.{Instance, PendingCall, Tables, ThreadSlot}
-use Rattle.kernel_model.specs.Sound.{unmarked}
-use Rattle.own_model.proofs.Others.{there_but_marked}
-use Rattle.own_model.specs.Own.{Numbering}
-use Rattle.own_model.specs.Tied.{FoundAlike, call_at}
+use Rattle.kernel_model.specs.Kernel.{Instance, Tables, ThreadSlot}
+use Rattle.own_model.specs.Tied.{FoundAlike}
 use Rattle.group_model.specs.Group.{Group, GroupCall}
-use Rattle.group_model.specs.Line.{AreNames, AreTiedCalls, HasNumber}
-use Rattle.group_model.specs.Tied.{AreOthers, CallsAlike, Names, SessionsFoundAlike, found_at}
+use Rattle.group_model.specs.Line.{AreNames}
+use Rattle.group_model.specs.Tied.{CallsAlike, Names, SessionsFoundAlike, found_at}
 use Rattle.realm_model.specs.Tied.{IsOfRealm, Tied, waiting_of}
-use Rattle.group_model.proofs.Lines.{SameMarked}
 use Rattle.group_model.proofs.Waits.{same_marked}
 use Rattle.group_model.proofs.Kept.{KeepsSlots, calls_kept}
 

@@ -28,3 +28,13 @@ pub mod SettledCalls
 pub mod BegunCalls
 pub mod MadeCalls
 pub mod OwnEntries
+pub mod Ready
+pub mod TiedEvents
+pub mod Along
+pub mod AllAnswered
+pub mod OpenRuns
+pub mod NotesStay
+pub mod OneAnswered
+pub mod Answered
+pub mod TwoWorlds
+pub mod SessionEvents

@@ -35,7 +35,7 @@ use Rattle.realm_model.specs.Reading.{Notes}
 use Rattle.group_model.specs.declared.group_event.GroupEvent.{GroupEvent}
 use Rattle.group_model.specs.declared.group_event.GroupEvent.TheVariants as event
 use Rattle.own_model.specs.declared.own_event.OwnInput.TheVariants.{Copied}
-use Rattle.realm_model.specs.Laws.{About, AsRealm, IsOne, names_of}
+use Rattle.realm_model.specs.Laws.{About, AsRealm, IsOne, OpensRun, names_of}
 use Rattle.realm_model.specs.Tied.{HasAll, IsOfRealm, Members, Tied}
 use Rattle.group_model.proofs.Alike.{map_none, opened_same}
 use Rattle.group_model.proofs.Begins.{nobody}
@@ -235,7 +235,7 @@ made_begins : (about : About) (notes : Notes) (slots : List ThreadSlot) (g : Gro
     → Within about notes slots g c → about.key ≡ c.boot.key → g.instance ≡ None → get instances number ≡ Some own_number
     → Tied about.members (names_of about notes instances) slots (record c.tables { next_instance = numbers.next })
     (record g { next_instance = numbers.own_next })
-    → ((after_it : Group) → AsRealm about.members.realm (notes.next_session + 1) instances after_it)
+    → ((after_it : Group) → (IsOne about.members.realm → OpensRun after_it.calls) → AsRealm about.members.realm (notes.next_session + 1) instances after_it)
     → AreBegun about notes slots g c numbers (on_new about g c wanted copies numbers number own_number)
 made_begins about notes slots g c wanted copies numbers number own_number instances w key none named tied as_realm = record {
   as_realm = as_realm;
@@ -312,7 +312,7 @@ awaited_comes about notes slots g c wanted copies number came w key passes share
     let numbers : Numbers = record { next = c.tables.next_instance; own_next = g.next_instance } in
     open_comes about notes slots g c wanted copies numbers (on_new about g c wanted copies numbers number its.0) came w
     (made_begins about notes slots g c wanted copies numbers number its.0 w.instances w key none its.2 w.tied
-    (λ after_it. as_all about.members.realm (notes.next_session + 1) w.instances after_it
+    (λ after_it runs. as_all about.members.realm (notes.next_session + 1) w.instances after_it
     (all_of about.members.realm about.members.app w.shares single)))
     grows
     (made_params c.boot.key (program_of about.members.app) (made about.members.app) wanted.login 0 copies.params
@@ -369,8 +369,8 @@ next_comes about notes slots g c wanted copies came w key passes shared awaited 
     (insert w.instances next g.next_instance) w key none (get-insert-same w.instances next g.next_instance)
     (instance_named about.members (names_of about notes w.instances) slots c.tables g
     (positive next w.numbers.instance_from_one) w.numbers w.rising none w.tied)
-    (λ after_it. as_next about.members.realm notes.next_session w.instances after_it next g.next_instance
-    (λ one. (fresh one).1)))
+    (λ after_it runs. as_next about.members.realm notes.next_session w.instances after_it next g.next_instance
+    (λ one. (fresh one).1) runs))
     grows
     (made_params c.boot.key (program_of about.members.app) (made about.members.app) wanted.login 0 copies.params
     (point.Open ∷ destroy_after about.members.app c.tables.sessions next))

@@ -1,5 +1,5 @@
 -- One session and all sessions of an application: what the two share where a call of theirs comes in.
-use Rattle.std.proofs.Common.{◌≡◌, ℕ, ◌+◌, ◌<◌, Bool, true, false, List, [], ◌∷◌, Option, Some, None, refl, ap, subst, sym}
+use Rattle.std.proofs.Common.{◌≡◌, ℕ, ◌+◌, ◌<◌, Bool, true, false, List, [], Option, Some, None, refl, ap, sym}
 use Rattle.std.proofs.Common.{◌∙◌, arith}
 use Rattle.std.specs.Prelude.{◌==◌, bytes_eq, if◌then◌else◌, is_some}
 use Rattle.std.specs.Option.{option_map, option_map_or}
@@ -27,7 +27,7 @@ use Rattle.group_model.specs.declared.group_event.GroupEvent.{GroupEvent}
 use Rattle.group_model.specs.declared.group_event.GroupEvent.TheVariants.{Open}
 use Rattle.realm_model.specs.Realm.{AllSessions, OneSession, Realm, number_in, open_of, settled_open_of}
 use Rattle.realm_model.specs.Reading.{Notes}
-use Rattle.realm_model.specs.Laws.{AsRealm, ComesAs, IsOne, SharesAs}
+use Rattle.realm_model.specs.Laws.{AsRealm, ComesAs, IsOne, OpensRun, SharesAs}
 use Rattle.realm_model.specs.Tied.{AreMembers, HasAll}
 
 -- ---- one or all
@@ -51,6 +51,12 @@ pub as_all : (realm : Realm) (next_session : ℕ) (instances : NumberMap ℕ) (g
     → AsRealm realm next_session instances g
 as_all (OneSession member) next_session instances g all = absurd all
 as_all (AllSessions app) next_session instances g all = tt
+
+-- one session's open never waits
+pub opens_of : (realm : Realm) (next_session : ℕ) (instances : NumberMap ℕ) (g : Group)
+    → AsRealm realm next_session instances g → IsOne realm → OpensRun g.calls
+opens_of (OneSession member) next_session instances g one is_one = one.runs
+opens_of (AllSessions app) next_session instances g one is_one = absurd is_one
 
 -- ---- behind the open
 
@@ -81,15 +87,16 @@ number_named (AllSessions app) sessions session number has is = is
 -- and the machine may change
 pub as_come : (realm : Realm) (sessions : NumberMap ℕ) (next next_session : ℕ) (instances : NumberMap ℕ) (g after_it : Group)
     → HasCome realm sessions → AreNames sessions next next_session → AsRealm realm next_session instances g
-    → AsRealm realm next_session instances after_it
-as_come (OneSession member) sessions next next_session instances g after_it has names one = record {
+    → (IsOne realm → OpensRun after_it.calls) → AsRealm realm next_session instances after_it
+as_come (OneSession member) sessions next next_session instances g after_it has names one runs = record {
+  runs = runs tt;
   lone = one.lone;
   fresh = λ none. absurd (positive next_session (names.given member 0 has).1 none);
 }
   where
     positive : (n : ℕ) → 0 < n → n ≡ 0 → ⊥
     positive n some none = absurd (omega arith)
-as_come (AllSessions app) sessions next next_session instances g after_it has names one = tt
+as_come (AllSessions app) sessions next next_session instances g after_it has names one runs = tt
 
 -- ---- at the open
 
@@ -102,8 +109,10 @@ yet_nobody (AllSessions of) app notes call instances g comes one is_one = absurd
 
 -- it gets one instance
 pub as_next : (realm : Realm) (next_session : ℕ) (instances : NumberMap ℕ) (after_it : Group) (next own : ℕ)
-    → (IsOne realm → instances ≡ []) → AsRealm realm (next_session + 1) (insert instances next own) after_it
-as_next (OneSession member) next_session instances after_it next own none = record {
+    → (IsOne realm → instances ≡ []) → (IsOne realm → OpensRun after_it.calls)
+    → AsRealm realm (next_session + 1) (insert instances next own) after_it
+as_next (OneSession member) next_session instances after_it next own none runs = record {
+  runs = runs tt;
   lone = λ first second a b one two. is_next first a one ∙ sym (is_next second b two);
   fresh = λ zero. absurd (more next_session zero);
 }
@@ -115,7 +124,7 @@ as_next (OneSession member) next_session instances after_it next own none = reco
 
     more : (n : ℕ) → n + 1 ≡ 0 → ⊥
     more n zero = absurd (omega arith)
-as_next (AllSessions app) next_session instances after_it next own none = tt
+as_next (AllSessions app) next_session instances after_it next own none runs = tt
 
 -- its session is the member, with number 0
 abbrev pub GrowsAs : Realm → ℕ → ℕ → Type 0

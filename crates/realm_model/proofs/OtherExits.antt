@@ -24,16 +24,15 @@ use Rattle.kernel_model.specs.Kernel.{Active, Asks, CallPhase, Ends, Free, Insta
 use Rattle.kernel_model.specs.Kernel.{Processor, Progress, Runs, Suspended, Tables, ThreadSlot, Visit, Waits}
 use Rattle.kernel_model.specs.Leaving.{FreesBuffer, Finishes, Interrupted, Leaving, Requests, WantsBuffer, leaving_of}
 use Rattle.kernel_model.specs.Sessions.{has_opened, sessions_after, sessions_after_panic, sessions_unrun}
-use Rattle.kernel_model.specs.Sound.{unmarked}
-use Rattle.kernel_model.proofs.Parts.{if-both, option_map_some, set_other}
+use Rattle.kernel_model.proofs.Parts.{if-both, option_map_some}
 use Rattle.own_model.proofs.FixedAnswers.{left}
-use Rattle.own_model.proofs.Maps.{get-insert-other, get-inserted, get-remove-other, get-removed, set_either}
+use Rattle.own_model.proofs.Maps.{get-insert-other, get-inserted, get-remove-other, get-removed}
 use Rattle.own_model.proofs.OwnTaken.{numbered_apart}
 use Rattle.own_model.specs.Tied.{call_in}
 use Rattle.group_model.specs.Group.{Group}
 use Rattle.realm_model.specs.Reading.{Notes, event_noted, exit_noted, out_noted}
 use Rattle.realm_model.specs.Laws.{About, AreTied, GoesAlong, OtherExitsKeepTied, names_of}
-use Rattle.group_model.specs.Tied.{AreOthers, IsOther, Names}
+use Rattle.group_model.specs.Tied.{IsOther, Names}
 use Rattle.realm_model.specs.Tied.{IsOfRealm, Tied}
 use Rattle.group_model.proofs.OtherExits.{HoldsOther, held_other, slot_keeps}
 use Rattle.realm_model.proofs.Kept.{KeepsTables, stays_tied}

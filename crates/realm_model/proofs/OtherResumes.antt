@@ -1,6 +1,6 @@
 -- A resume of a call that isn't the realm's leaves kernel and machine tied.
 use Rattle.std.proofs.Common.{◌≡◌, ℕ, Bool, true, false, List, [], ◌∷◌, Option, Some, None, refl, ap, subst, sym, ◌∙◌}
-use Rattle.std.specs.Prelude.{All, IsSome, cond, is_some, filter, map, not, slice_get, slice_set, ◌==◌, ◌||◌}
+use Rattle.std.specs.Prelude.{All, IsSome, is_some, not, slice_get, slice_set, ◌==◌, ◌||◌}
 use Rattle.std.specs.List.{list_any}
 use Rattle.std.specs.Option.{option_map_or, option_and_then}
 use Rattle.std.proofs.lemmas.Bool.Decides.{Decides-eqb}
@@ -36,7 +36,7 @@ use Rattle.own_model.proofs.Lookups.{app_named}
 use Rattle.own_model.proofs.OtherResumes.{suspended_holds, visitor_there}
 use Rattle.own_model.specs.Own.{Entering}
 use Rattle.own_model.specs.Tied.{call_at, call_in}
-use Rattle.group_model.specs.Group.{Group, GroupWaiter}
+use Rattle.group_model.specs.Group.{Group}
 use Rattle.realm_model.specs.Reading.{Notes, Watched, entry_noted, event_noted, resume_noted, slot_noted}
 use Rattle.realm_model.specs.Laws.{AreTied, GoesAlong, OtherResumesKeepTied, names_of}
 use Rattle.group_model.specs.Tied.{IsOther, Names}

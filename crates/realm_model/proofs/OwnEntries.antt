@@ -1,33 +1,23 @@
 -- An entry with a new call of the realm leaves kernel and machine tied: the machine does the same with its event.
-use Rattle.std.proofs.Common.{◌≡◌, ℕ, ◌≤◌, ◌<◌, List, [], ◌∷◌, Option, Some, None, refl, ap, subst, sym, ◌∙◌, arith}
-use Rattle.std.specs.Prelude.{slice_get}
-use Rattle.std.specs.Option.{option_and_then, option_map, option_map_or}
-use Rattle.base.specs.NumberMap.{get}
+use Rattle.std.proofs.Common.{◌≡◌, ℕ, List, [], ◌∷◌, Option, None, refl, ap, subst, sym, ◌∙◌}
+use Rattle.std.specs.Option.{option_map_or}
 use Rattle.event_journal.specs.declared.event.Event.TheVariants.{Entry}
 use Rattle.job_model.specs.declared.call_kind.CallKind.{CallKind}
 use Rattle.job_model.specs.declared.call_kind.CallKind.TheVariants as kind
 use Rattle.ta_params.specs.declared.copied_params.CopiedParams.{CopiedParams}
-use Rattle.kernel_model.specs.Application.{Application, Booted}
 use Rattle.kernel_model.specs.Decision.{Taken, Takes}
 use Rattle.kernel_model.specs.Entry.{after_decision}
-use Rattle.kernel_model.specs.Kernel.{Free, Kernel, PendingCall, Tables}
+use Rattle.kernel_model.specs.Kernel.{Kernel, PendingCall, Tables}
 use Rattle.kernel_model.specs.Kernel.{ThreadSlot, Visit, Waits}
-use Rattle.kernel_model.specs.Located.{Located, cookie_of}
 use Rattle.kernel_model.specs.NewCall.{NewCall, new_call_of, no_copies}
 use Rattle.kernel_model.specs.NewCall as new
 use Rattle.kernel_model.proofs.SoundNewCalls.{waiting_taken}
 use Rattle.job_model.specs.Point.{no_params}
-use Rattle.own_model.proofs.BelowNumbers.{AreBelow, below_numbers}
-use Rattle.own_model.proofs.PinnedTables.{below_pinned}
-use Rattle.own_model.specs.Tied.{call_in}
-use Rattle.group_model.specs.Group.{Answered, Group, and_reply, run, step}
+use Rattle.group_model.specs.Group.{Group}
 use Rattle.realm_model.specs.Reading.{Comes, Notes, event_noted, event_of, numbered, sessions_with, with_event}
 use Rattle.group_model.specs.declared.group_event.GroupEvent.{GroupEvent}
-use Rattle.group_model.specs.declared.group_reply.GroupReply.{GroupReply}
 use Rattle.group_model.proofs.OwnEntries.{one_step}
-use Rattle.realm_model.specs.Laws.{About, AreTied, ComesAs, GoesAlong, OwnCallsKeepTied}
-use Rattle.group_model.specs.Tied.{Names}
-use Rattle.realm_model.specs.Tied.{Tied}
+use Rattle.realm_model.specs.Laws.{About, ComesAs, GoesAlong, OwnCallsKeepTied}
 use Rattle.group_model.proofs.NewEntries.{new_call_taken}
 use Rattle.realm_model.proofs.OtherEntries.{new_call_noted, within}
 use Rattle.realm_model.proofs.OtherCalls.{Within}

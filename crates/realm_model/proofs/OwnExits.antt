@@ -49,6 +49,8 @@ use Rattle.group_model.proofs.InOrder.{InOrderGoing, going_so}
 use Rattle.group_model.proofs.OrderedChanges.{InLine, is_on}
 use Rattle.realm_model.proofs.Progress.{OwnThere, Place, comes_to, names_at, still_as}
 use Rattle.realm_model.proofs.Progress as progressed
+use Rattle.realm_model.proofs.Members.{opens_of}
+use Rattle.realm_model.proofs.OpenRuns.{opens_after}
 use Rattle.group_model.proofs.MoreSteps.{one_step}
 use Rattle.own_model.proofs.OwnExits.{AsksFor}
 
@@ -102,7 +104,11 @@ goes_along p visit own progress there g =
             (slice_set p.kernel.slots p.slot (slot_left progress.call g.leaving))
             (tables_left progress.tables p.slot (slot_left progress.call g.leaving)) g.final) (sym g.numbers) g.tied);
         as_realm = still_as p.about.members.realm p.notes.next_session p.instances p.group g.final p.number own there
-            p.as_realm;
+            p.as_realm
+            (λ one.
+            opens_after p.about.most p.about.members.app p.group (Out p.number) (g.final, Some told) tt
+            (opens_of p.about.members.realm p.notes.next_session p.instances p.group p.as_realm one)
+            (ap (λ (o : Option GroupCall). option_and_then (goes_out p.about.most p.group p.number) o) there ∙ g.goes));
       };
     })
   where

@@ -16,7 +16,7 @@ use Rattle.session_table.specs.declared.session.Session.{Session}
 use Rattle.session_table.specs.declared.waiters.Waiter.{Waiter}
 use Rattle.session_table.specs.Waiters.{waits}
 use Rattle.ta_params.specs.declared.copied_params.CopiedParams.{CopiedParams}
-use Rattle.kernel_model.specs.Application.{Application, Booted, uuid_of}
+use Rattle.kernel_model.specs.Application.{Booted, uuid_of}
 use Rattle.kernel_model.specs.Argument.{client_in, thread_in}
 use Rattle.kernel_model.specs.Begin.{has_pages_for}
 use Rattle.kernel_model.specs.Given.{Given, Nothing, given_to}
@@ -46,13 +46,15 @@ use Rattle.group_model.specs.declared.group_event.GroupEvent.{GroupEvent}
 use Rattle.group_model.specs.declared.group_event.GroupEvent.TheVariants.{Back, Room}
 use Rattle.group_model.specs.declared.group_reply.GroupReply.{GroupReply}
 use Rattle.group_model.specs.InOrder.{Fits}
-use Rattle.realm_model.specs.Laws.{AreFitting, AreTied, AsRealm, GoesAlong, IsOne, IsRealm, OpensRun, OwnResumesKeepTied}
+use Rattle.realm_model.specs.Laws.{AreFitting, AreTied, AsRealm, GoesAlong, IsRealm, OwnResumesKeepTied}
 use Rattle.realm_model.specs.Tied.{HasAll, IsOfRealm, Members, Tied}
 use Rattle.realm_model.proofs.CallChanges.{call_changes, tables_change}
 use Rattle.group_model.proofs.InOrder.{stays_in_order}
 use Rattle.realm_model.proofs.Onward.{Returns, homes_of, onward_so}
 use Rattle.realm_model.proofs.OwnExits.{found_there}
 use Rattle.realm_model.proofs.Progress.{OwnThere, Place, kept_at, kept_told, names_at, still_as}
+use Rattle.realm_model.proofs.Members.{opens_of}
+use Rattle.realm_model.proofs.OpenRuns.{NoOpens, no_opens, opens_behind}
 use Rattle.realm_model.proofs.Room.{IsReady, is_ready, log_grows, room_is}
 use Rattle.realm_model.proofs.Seen.{SeesAlike, sees_alike}
 use Rattle.realm_model.proofs.Silent.{Silently, events_silent, replies_silent, silently, silently_on, silently_runs}
@@ -230,8 +232,7 @@ GoesBack boot p next visit reads call progress =
 module _ (boot : Booted) (p : Place) (next : Kernel) (visit : Visit) (reads : List Read) (call : PendingCall)
     (own : GroupCall) (given : Given) (before : ThreadSlot) (f : Returns boot p call own)
     (in_slot : slice_get p.kernel.slots p.slot ≡ Some before)
-    (gives : reading (given_to visit.regs p.slot call) reads ≡ Some given)
-    (opens : IsOne p.about.members.realm → OpensRun p.group.calls) where
+    (gives : reading (given_to visit.regs p.slot call) reads ≡ Some given) where
   abbrev progress : Progress
   progress = is_resumed boot p.kernel p.slot call given
 
@@ -246,7 +247,7 @@ module _ (boot : Booted) (p : Place) (next : Kernel) (visit : Visit) (reads : Li
     kernel = refl;
     realm = refl;
     shares = f.shares.shares;
-    run = opens;
+    run = opens_of p.about.members.realm p.notes.next_session p.instances p.group p.as_realm;
   }) f.there s
 
   seen_so : progress.call.seen ≡ (sees call).seen
@@ -258,12 +259,12 @@ module _ (boot : Booted) (p : Place) (next : Kernel) (visit : Visit) (reads : Li
   abbrev logged : List GroupEvent → Notes
   logged events = record p.notes { log = p.notes.log ++ silently events }
 
-  along : (events : List GroupEvent) (final : Group) → Silently p.about p.group events final
+  along : (events : List GroupEvent) (final : Group) → NoOpens events → Silently p.about p.group events final
       → Tied p.about.members (names_at p) (slice_set p.kernel.slots p.slot (Active visit.cpu progress.call)) progress.tables
       final
       → resume_noted watched p.slot call progress.call p.notes p.number ≡ logged events
       → GoesBack boot p next visit reads call progress
-  along events final goes tied noted =
+  along events final none goes tied noted =
       subst (GoesAlong p.about p.notes p.group (record p.kernel {
         slots = slice_set p.kernel.slots p.slot (Active visit.cpu progress.call);
         tables = progress.tables;
@@ -279,7 +280,10 @@ module _ (boot : Booted) (p : Place) (next : Kernel) (visit : Visit) (reads : Li
           instances = p.instances;
           tied = tied;
           as_realm = still_as p.about.members.realm p.notes.next_session p.instances p.group final p.number own
-              f.there.of_number p.as_realm;
+              f.there.of_number p.as_realm
+              (λ one.
+              opens_behind p.about p.group final events none
+              (opens_of p.about.members.realm p.notes.next_session p.instances p.group p.as_realm one) goes);
         };
       })
 
@@ -302,7 +306,7 @@ module _ (boot : Booted) (p : Place) (next : Kernel) (visit : Visit) (reads : Li
       let none_of : room_of p.about.members.realm boot p.kernel.tables call ≡ None =
       room_is p.about.members.realm boot p.kernel.tables call p.about.members.app f.shares.shares (λ one. no_room)
       ∙ ap (λ b. if b then Some (has_pages_for boot p.kernel.tables p.about.members.app) else None) no_room in
-      along s.came (record p.group { calls = s.calls }) s.runs
+      along s.came (record p.group { calls = s.calls }) s.quiet s.runs
       (subst (λ (q : Progress). Tied p.about.members (names_at p)
       (slice_set p.kernel.slots p.slot (Active visit.cpu q.call)) q.tables (record p.group { calls = s.calls })) (sym same)
       (s.stays (Active visit.cpu (sees call)) refl))
@@ -371,7 +375,7 @@ module _ (boot : Booted) (p : Place) (next : Kernel) (visit : Visit) (reads : Li
         waiting = g.waiting;
         calls = calls;
       })) (ready.again last) in
-      along (ready.came ++ back ∷ []) final
+      along (ready.came ++ back ∷ []) final (no_opens ready.came (back ∷ []) ready.quiet tt)
       (silently_on p.about p.group between final ready.came (back ∷ []) ready.runs (
         final,
         ap (λ (o : Option GroupCall). option_map silent
@@ -410,7 +414,7 @@ module _ (boot : Booted) (p : Place) (next : Kernel) (visit : Visit) (reads : Li
 -- ---- the entry
 
 pub own_resume : OwnResumesKeepTied
-own_resume boot about kernel next cpu steps number regs reads call notes g shares key fitting opens is some has order e
+own_resume boot about kernel next cpu steps number regs reads call notes g shares key fitting is some has order e
     tied =
     let visit : Visit = record { cpu = cpu; regs = regs.a; steps = steps } in
     let slot : ℕ = thread_in regs.a in
@@ -435,7 +439,7 @@ own_resume boot about kernel next cpu steps number regs reads call notes g share
     ap (λ (o : Option ThreadSlot). option_and_then call_in o) at.1 in
     let found = found_there p call has in_slot order fitting.rising tied.tied in
     let back = goes_back boot p next visit reads call found.0 given.0 (Suspended at.0 call)
-    (returns_so boot p call found.0 shares key fitting in_slot found.1) at.1 given.1 opens in
+    (returns_so boot p call found.0 shares key fitting in_slot found.1) at.1 given.1 in
     let returned : GoesBack boot p next visit reads call resumes.progress =
     subst (λ (q : Progress). GoesBack boot p next visit reads call q) given.2 back in
     let there = visitor_there boot kernel next cpu steps regs reads e in

@@ -37,7 +37,7 @@ use Rattle.group_model.specs.Group as machine
 use Rattle.realm_model.specs.Reading.{Notes}
 use Rattle.group_model.specs.InOrder.{Fits, IsInOrder}
 use Rattle.realm_model.specs.Realm.{AllSessions, OneSession, Realm}
-use Rattle.realm_model.specs.Laws.{About, AsRealm, names_of}
+use Rattle.realm_model.specs.Laws.{About, AsRealm, IsOne, OpensRun, names_of}
 use Rattle.group_model.specs.Tied.{AreasAlike, CallsAlike, HomesAlike, IsTold, Names}
 use Rattle.realm_model.specs.Tied.{Tied}
 use Rattle.realm_model.proofs.CallChanges.{tables_change}
@@ -63,15 +63,17 @@ pub record Place : Type 0 where
 
 -- where a call is there the open has come, so that the machine may change
 pub still_as : (realm : Realm) (next_session : ℕ) (instances : NumberMap ℕ) (g then : Group) (number : ℕ) (own : GroupCall)
-    → get g.calls number ≡ Some own → AsRealm realm next_session instances g → AsRealm realm next_session instances then
-still_as (OneSession member) next_session instances g then number own there one = record {
+    → get g.calls number ≡ Some own → AsRealm realm next_session instances g → (IsOne realm → OpensRun then.calls)
+    → AsRealm realm next_session instances then
+still_as (OneSession member) next_session instances g then number own there one runs = record {
+  runs = runs tt;
   lone = one.lone;
   fresh = λ none. absurd (nobody (one.fresh none).0);
 }
   where
     nobody : g ≡ nobody_there g.key → ⊥
     nobody is = let no : None ≡ Some own = sym (ap (λ (x : Group). get x.calls number) is) ∙ there in absurd cc
-still_as (AllSessions app) next_session instances g then number own there one = tt
+still_as (AllSessions app) next_session instances g then number own there one runs = tt
 
 abbrev pub names_at : Place → Names
 names_at p = names_of p.about p.notes p.instances

@@ -4,7 +4,6 @@ use Rattle.std.specs.Prelude.{if◌then◌else◌}
 use Rattle.std.specs.Option.{is_none, option_map, option_and_then}
 use Rattle.std.proofs.lemmas.List.{append_assoc, map-append}
 use Rattle.base.specs.NumberMap.{NumberMap, get, insert}
-use Rattle.job_model.specs.Job.{Job}
 use Rattle.job_model.specs.declared.call_kind.CallKind.{CallKind}
 use Rattle.job_model.specs.declared.call_kind.CallKind.TheVariants as kind
 use Rattle.kernel_model.specs.Begin.{has_pages_for}
@@ -16,7 +15,6 @@ use Rattle.own_model.specs.Tied.{FoundAlike, PhasesAlike}
 use Rattle.group_model.specs.Group.{Group, GroupCall, instance_at, silent, with_call}
 use Rattle.group_model.specs.Group as machine
 use Rattle.group_model.specs.Read.{finds_it_gone}
-use Rattle.group_model.proofs.Room.{running_finds}
 use Rattle.kernel_model.specs.Application.{Application, Booted}
 use Rattle.std.specs.Option.{option_map_or}
 use Rattle.realm_model.specs.Realm.{AllSessions, OneSession, Realm, room_of}
@@ -28,6 +26,7 @@ use Rattle.group_model.specs.Tied.{CallsAlike, HomesAlike, IsTold, found_at}
 use Rattle.realm_model.proofs.Progress.{OwnThere, Place, kept_at}
 use Rattle.realm_model.proofs.Seen.{SeesAlike}
 use Rattle.realm_model.proofs.Silent.{Silently, silently, silently_on, unanswered}
+use Rattle.realm_model.proofs.OpenRuns.{NoOpens, no_opens}
 
 -- ---- an instance that is gone
 
@@ -126,6 +125,7 @@ room_is (AllSessions of) boot tables call app shares none =
 -- it has seen what the call has, and was told whether there is room
 pub record IsReady (w : Watched) (p : Place) (call : PendingCall) (own : GroupCall) : Type 0 where
   pub came : List GroupEvent
+  pub quiet : NoOpens came
   pub now : GroupCall
   pub calls : NumberMap GroupCall
   pub again : (v : GroupCall) → insert calls p.number v ≡ insert p.group.calls p.number v
@@ -183,6 +183,7 @@ as_seen : (w : Watched) (p : Place) (call : PendingCall) (own : GroupCall) → (
     → machine.finds_it_gone p.group s.now s.now.kind s.now.phase ≡ false → IsReady w p call own
 as_seen w p call own s none own_kept = record {
   came = s.came;
+  quiet = s.quiet;
   now = s.now;
   calls = s.calls;
   again = s.again;
@@ -212,6 +213,7 @@ is_gone w p call own s enough has gone own_gone =
     let seen : Group = record p.group { calls = s.calls } in
     record {
       came = s.came ++ came ∷ [];
+      quiet = no_opens s.came (came ∷ []) s.quiet tt;
       now = now;
       calls = insert s.calls p.number now;
       again = λ v. insert-again s.calls p.number now v ∙ s.again v;

@@ -22,12 +22,14 @@ use Rattle.group_model.proofs.CallChanges.{calls_stay, others_changed}
 use Rattle.realm_model.proofs.CallChanges.{call_changes}
 use Rattle.realm_model.proofs.Progress.{OwnThere, Place, kept_at, kept_told, names_at, same_own}
 use Rattle.realm_model.proofs.Silent.{Silently, silently}
+use Rattle.realm_model.proofs.OpenRuns.{NoOpens}
 
 -- ---- the call
 
 -- the call as it has seen its cancellation, and the machine's
 pub record SeesAlike (p : Place) (call : PendingCall) (own : GroupCall) : Type 0 where
   pub came : List GroupEvent
+  pub quiet : NoOpens came
   pub now : GroupCall
   pub calls : NumberMap GroupCall
   pub again : (v : GroupCall) → insert calls p.number v ≡ insert p.group.calls p.number v
@@ -92,6 +94,7 @@ as_before : (p : Place) (call : PendingCall) (own : GroupCall) (before : ThreadS
     → SeesAlike p call own
 as_before p call own before h in_slot alike none = record {
   came = [];
+  quiet = tt;
   now = own;
   calls = p.group.calls;
   again = λ v. refl;
@@ -170,6 +173,7 @@ seen_now p call own before h in_slot marked unseen =
     with_call p.group p.number (record own { seen = true; steps = call.steps; phase = phase_seen f }) in
     record {
       came = Seen p.number call.steps ∷ [];
+      quiet = tt;
       now = now;
       calls = insert p.group.calls p.number now;
       again = λ v. insert-again p.group.calls p.number now v;

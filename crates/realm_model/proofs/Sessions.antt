@@ -1,5 +1,5 @@
 -- What is noted of a session is what is noted of its realm, with the numbers of sessions forgotten.
-use Rattle.std.proofs.Common.{◌≡◌, ℕ, Bool, true, false, List, [], ◌∷◌, ◌++◌, Option, Some, None, refl, ap, subst, sym, ◌∙◌}
+use Rattle.std.proofs.Common.{◌≡◌, ℕ, Bool, true, false, List, [], ◌∷◌, ◌++◌, Option, Some, None, refl, ap, sym, ◌∙◌}
 use Rattle.std.specs.Prelude.{◌==◌, ◌&&◌, filter, filter_map, if◌then◌else◌, is_some, map, not, slice_get}
 use Rattle.std.specs.List.{cons_option, list_any}
 use Rattle.std.specs.Option.{option_and_then, option_map, option_map_or}
@@ -10,7 +10,6 @@ use Rattle.event_journal.specs.declared.event.Event.TheVariants as event
 use Rattle.job_model.specs.declared.call_kind.CallKind.{CallKind}
 use Rattle.job_model.specs.declared.call_kind.CallKind.TheVariants as kind
 use Rattle.ns_ram.specs.Reader.{reading}
-use Rattle.smc_abi.specs.declared.answer.Answer.{Answer}
 use Rattle.ta_params.specs.declared.call_result.CallResult.{CallResult}
 use Rattle.kernel_model.specs.Application.{Booted}
 use Rattle.kernel_model.specs.Exit.{progress_in_slot}
@@ -20,8 +19,7 @@ use Rattle.kernel_model.specs.Kernel.{ACancel, Active, AnInvoke, AnOpen, Asks, C
 use Rattle.kernel_model.specs.Kernel.{Inside, Kernel, PendingCall, Processor, Progress, Runs, SettledCall, Suspended, Tables}
 use Rattle.kernel_model.specs.Kernel.{ThreadSlot, Untold, Visit, Waits, first_kernel}
 use Rattle.kernel_model.specs.Leaving.{Interrupted, FreesBuffer, Finishes, Leaving, Requests, WantsBuffer, leaving_of}
-use Rattle.own_model.specs.Own.{Entering, Numbering, input_of, is_limit, is_of_client, next_in, reply_of, slot_kept, wake_kept}
-use Rattle.own_model.specs.Own.{wake_of, with_wake}
+use Rattle.own_model.specs.Own.{Entering, Numbering, is_limit, is_of_client, next_in}
 use Rattle.own_model.specs.Own as own
 use Rattle.own_model.specs.declared.own_event.OwnEvent.{OwnEvent}
 use Rattle.own_model.specs.declared.own_event.OwnEvent.TheVariants as own_event
@@ -33,9 +31,9 @@ use Rattle.group_model.specs.Read.{invoke_event}
 use Rattle.group_model.specs.declared.group_event.GroupEvent.{GroupEvent}
 use Rattle.group_model.specs.declared.group_event.GroupEvent.TheVariants.{Back, Cancel, Close, Invoke, Open, Out, Room, Seen}
 use Rattle.group_model.specs.declared.group_reply.GroupReply.{GroupReply}
-use Rattle.realm_model.specs.Realm.{OneSession, Realm, open_of}
-use Rattle.realm_model.specs.Reading.{Comes, Logged, Notes, RealmEvent, TurnedAway, Watched, back_noted, call_noted}
-use Rattle.realm_model.specs.Reading.{entry_noted, errand_noted, event_noted, event_of, exit_noted, fixed_noted, limit_noted}
+use Rattle.realm_model.specs.Realm.{OneSession, open_of}
+use Rattle.realm_model.specs.Reading.{Comes, Logged, Notes, TurnedAway, back_noted}
+use Rattle.realm_model.specs.Reading.{entry_noted, errand_noted, event_noted, event_of, exit_noted}
 use Rattle.realm_model.specs.Reading.{noted, noted_from, numbered, out_noted, resume_noted, seen_noted, sessions_with}
 use Rattle.realm_model.specs.Reading.{settled_event, settled_event_in, slot_noted, uuid_by, with_event, with_reply}
 use Rattle.realm_model.specs.Forgetting.{SessionsAreRealms, forgotten, own_event_of, own_logged, own_part}
@@ -62,7 +60,7 @@ event_if notes came event false is = refl
 -- ---- calls that come in
 
 -- the realm's event is the session's with its number, and there is none where the session has none
-abbrev SameEvent : Option GroupEvent → Option OwnEvent → Type 0
+abbrev pub SameEvent : Option GroupEvent → Option OwnEvent → Type 0
 SameEvent None None = Unit {0}
 SameEvent (Some came) (Some event) = forgotten came ≡ Some event
 SameEvent (Some came) None = ⊥
@@ -119,7 +117,7 @@ settled_in_same member notes call (Waits params) = none_same (call.session == me
 settled_in_same member notes call (Ends result params told wakes) =
     settled_same member notes call call.settled result
 
-event_same : (member : ℕ) (tables : Tables) (notes : Notes) (call : PendingCall) (call_kind : CallKind)
+pub event_same : (member : ℕ) (tables : Tables) (notes : Notes) (call : PendingCall) (call_kind : CallKind)
     → SameEvent (event_of (OneSession member) tables notes call call_kind)
     (if call.session == member then own.event_in (is_some call.area) call.settled call_kind call.phase else None)
 event_same member tables notes call kind.Open = open_same member tables call call.phase
@@ -304,7 +302,7 @@ out_same member kernel notes cpu _ = refl
 
 -- ---- the history
 
-happened_same : (boot : Booted) (member : ℕ) (kernel next : Kernel) (notes : Notes) (happened : Event)
+pub happened_same : (boot : Booted) (member : ℕ) (kernel next : Kernel) (notes : Notes) (happened : Event)
     → own_part (event_noted boot (OneSession member) kernel next notes happened)
     ≡ own.event_noted member kernel next (own_part notes) happened
 happened_same boot member kernel next notes (event.Entry cpu regs steps reads) =

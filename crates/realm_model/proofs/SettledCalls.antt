@@ -1,9 +1,9 @@
 -- What a new call of the realm that is settled as it comes in takes its slot for, and the machine's step with it: it settles
 -- one too, by the same test.
 use Rattle.std.proofs.Common.{◌≡◌, ℕ, Bool, true, false, List, Option, Some, None, refl, ap, subst, sym, ◌∙◌}
-use Rattle.std.specs.Prelude.{bytes_eq, if◌then◌else◌, is_some}
+use Rattle.std.specs.Prelude.{if◌then◌else◌, is_some}
 use Rattle.std.specs.Option.{option_and_then, option_map}
-use Rattle.base.specs.NumberMap.{NumberMap, get}
+use Rattle.base.specs.NumberMap.{NumberMap}
 use Rattle.job_model.specs.Job.{of_tee}
 use Rattle.job_model.specs.Point.{no_params}
 use Rattle.session_table.specs.declared.session.Session.{Session}
@@ -18,7 +18,6 @@ use Rattle.kernel_model.specs.NewCall.{NewCall, is_taken, keeps_buffers, named_s
 use Rattle.kernel_model.specs.NewCall.{settles_open, shares_one}
 use Rattle.kernel_model.specs.NewCall as new
 use Rattle.kernel_model.proofs.Parts.{option_map_some}
-use Rattle.kernel_model.proofs.SoundMaps.{if_some}
 use Rattle.own_model.specs.Own.{input_settled, next_in}
 use Rattle.own_model.specs.declared.own_event.OwnInput.{OwnInput}
 use Rattle.own_model.specs.declared.own_event.OwnInput.TheVariants.{Faulty, Unread}
@@ -34,12 +33,12 @@ use Rattle.realm_model.proofs.Begins.{call_comes}
 use Rattle.group_model.proofs.Lines.{slots_with}
 use Rattle.group_model.proofs.NewForms.{Passes}
 use Rattle.realm_model.proofs.OtherCalls.{Within}
-use Rattle.realm_model.proofs.WaitingCalls.{AtHome, ComesIn, at_home, dead_same, home_at, same_app, some_same}
+use Rattle.realm_model.proofs.WaitingCalls.{AtHome, ComesIn, at_home, dead_same, home_at, same_app}
 use Rattle.realm_model.proofs.WaitingCalls.{taken_same, tested_step}
 use Rattle.group_model.specs.Group.{nobody_there}
 use Rattle.job_model.specs.declared.call_kind.CallKind.TheVariants as kind
-use Rattle.realm_model.specs.Tied.{HasAll}
-use Rattle.realm_model.proofs.Members.{HasCome, as_all, as_come, come_before, not_one, noted_stops, number_named}
+use Rattle.realm_model.proofs.Members.{as_all, as_come, come_before, not_one, noted_stops, number_named, opens_of}
+use Rattle.realm_model.proofs.OpenRuns.{put}
 
 -- where an event of it is noted, it comes in with that
 abbrev pub IfNoted : About → Notes → List ThreadSlot → Group → ℕ → Taken → Type 0
@@ -186,7 +185,8 @@ invoke_stops about notes slots g c named code w is steps came comes_as noted =
           settled_tied about notes slots g c (AnInvoke c.head.func) c.head.session None None (is_some c.area) code
           (event.Invoke at.0 c.head.func (input_settled (of_tee code)) (is_some c.area)) notes.uuid cpu w
           (as_come about.members.realm notes.sessions c.tables.next_session notes.next_session w.instances g _ come
-          w.tied.session_names w.as_realm);
+          w.tied.session_names w.as_realm
+          (λ one. put g.calls g.entered _ (opens_of about.members.realm notes.next_session w.instances g w.as_realm one) (λ params kinds waits. cc)));
     })
 
 -- the machine's step at an invoke
@@ -234,5 +234,6 @@ cancels about notes slots g c named w is came comes_as noted =
           settled_tied about notes slots g c ACancel c.head.session None (new.cancels c).cancels false success
           (event.Cancel at.0) notes.uuid cpu w
           (as_come about.members.realm notes.sessions c.tables.next_session notes.next_session w.instances g _ come
-          w.tied.session_names w.as_realm);
+          w.tied.session_names w.as_realm
+          (λ one. put g.calls g.entered _ (opens_of about.members.realm notes.next_session w.instances g w.as_realm one) (λ params kinds waits. cc)));
     })

@@ -1,12 +1,12 @@
 -- What a new call of the realm that waits takes its slot for, and the machine's step with it.
-use Rattle.std.proofs.Common.{◌≡◌, ℕ, ◌+◌, ◌<◌, Bool, true, false, List, [], ◌∷◌, Option, Some, None, refl, ap, subst, sym}
+use Rattle.std.proofs.Common.{◌≡◌, ℕ, ◌+◌, Bool, true, false, List, [], ◌∷◌, Option, Some, None, refl, ap, subst, sym}
 use Rattle.std.proofs.Common.{◌∙◌}
-use Rattle.std.specs.Prelude.{All, IsSome, ◌==◌, ◌&&◌, bytes_eq, find, if◌then◌else◌, is_some, not, slice_get}
+use Rattle.std.specs.Prelude.{All, IsSome, ◌==◌, ◌&&◌, bytes_eq, find, if◌then◌else◌, is_some, not}
 use Rattle.std.specs.Option.{option_and_then, option_map, option_map_or}
 use Rattle.std.proofs.lemmas.Bool.Decides.{Decides-eqb}
 use Rattle.std.proofs.lemmas.Option.{option_and_then_some}
 use Rattle.std.proofs.lemmas.Slice.Eq.{bytes_eq-Decides}
-use Rattle.base.specs.NumberMap.{NumberMap, IsRising, get}
+use Rattle.base.specs.NumberMap.{NumberMap, get}
 use Rattle.base.proofs.MapLemmas.{All-get}
 use Rattle.job_model.specs.declared.call_kind.CallKind.{CallKind}
 use Rattle.job_model.specs.declared.call_kind.CallKind.TheVariants as kind
@@ -24,7 +24,7 @@ use Rattle.kernel_model.specs.Argument.{Opening}
 use Rattle.kernel_model.specs.Codes.{busy, out_of_memory, target_dead}
 use Rattle.kernel_model.specs.Decision.{Taken}
 use Rattle.kernel_model.specs.Instances.{app_of, is_held, is_multi_session, is_single}
-use Rattle.kernel_model.specs.Kernel.{Free, Instance, PendingCall, Runs, ThreadSlot, Waits}
+use Rattle.kernel_model.specs.Kernel.{Instance, PendingCall, Runs, ThreadSlot, Waits}
 use Rattle.kernel_model.specs.NewCall.{NewCall, named_session, no_copies, shared_by, shares_one, with_pins}
 use Rattle.kernel_model.specs.NewCall as new
 use Rattle.kernel_model.specs.Sessions as kept_sessions
@@ -32,11 +32,10 @@ use Rattle.kernel_model.proofs.Parts.{option_map_some, some_of}
 use Rattle.kernel_model.proofs.SoundMaps.{if_some, named_is}
 use Rattle.kernel_model.proofs.SoundNewCalls.{waiting_taken}
 use Rattle.kernel_model.proofs.SoundRising.{found_there, none_passes}
-use Rattle.own_model.proofs.BelowNumbers.{AreBelow}
 use Rattle.own_model.proofs.Lookups.{app_named}
 use Rattle.own_model.proofs.Maps.{get-insert-same}
 use Rattle.own_model.specs.Own.{next_in}
-use Rattle.own_model.specs.Tied.{FoundAlike, InstancesAlike, call_at}
+use Rattle.own_model.specs.Tied.{FoundAlike, InstancesAlike}
 use Rattle.own_model.specs.declared.own_event.OwnInput.{OwnInput}
 use Rattle.own_model.specs.declared.own_event.OwnInput.TheVariants.{Copied}
 use Rattle.group_model.specs.Group.{Coming, Group, GroupSession, Home, Opener, about_home, about_open, fresh_call, home}
@@ -52,7 +51,7 @@ use Rattle.realm_model.specs.Laws.{About, AreTied, ComesAs, IsOne, names_of}
 use Rattle.group_model.specs.Tied.{AreasAlike, HomesAlike, SessionsAlike}
 use Rattle.realm_model.specs.Tied.{IsOfRealm}
 use Rattle.group_model.specs.Tied.{SessionsFoundAlike, found_at}
-use Rattle.realm_model.specs.Tied.{HasAll, Tied}
+use Rattle.realm_model.specs.Tied.{HasAll}
 use Rattle.group_model.proofs.Alike.{held_alike, kept_instance, own_for, own_instance, session_same}
 use Rattle.group_model.proofs.Begins.{found_same}
 use Rattle.group_model.proofs.GrownNames.{tables_with, with_next_session}
@@ -62,8 +61,9 @@ use Rattle.group_model.proofs.NewForms.{Passes}
 use Rattle.realm_model.proofs.Waits.{call_waits}
 use Rattle.group_model.specs.Group.{nobody_there}
 use Rattle.realm_model.specs.Tied.{Members}
-use Rattle.realm_model.proofs.Members.{GrowsAs, HasCome, all_of, as_all, as_come, come_before, either_realm, grows_all, members_grow}
-use Rattle.realm_model.proofs.Members.{not_one, noted_waits, number_named}
+use Rattle.realm_model.proofs.Members.{HasCome, all_of, as_all, as_come, come_before, either_realm, grows_all, members_grow}
+use Rattle.realm_model.proofs.Members.{not_one, noted_waits, number_named, opens_of}
+use Rattle.realm_model.proofs.OpenRuns.{put}
 use Rattle.realm_model.proofs.OtherCalls.{Within}
 
 -- it comes in with this event, of which the machine makes that, and it is tied to what the slot is taken for
@@ -167,16 +167,18 @@ areas_are call own kind.Settled same = tt
 session_waits : (about : About) (notes : Notes) (slots : List ThreadSlot) (g : Group) (c : NewCall)
     (named : Session × Instance) (number : ℕ) (call_kind : CallKind) (copies : Copies) (came : GroupEvent)
     → (w : Within about notes slots g c) → get notes.sessions c.head.session ≡ Some number
-    → (h : AtHome about notes w.instances g named number) → HasCome about.members.realm notes.sessions → (cpu : ℕ)
+    → (h : AtHome about notes w.instances g named number) → HasCome about.members.realm notes.sessions → (call_kind ≡ kind.Open → ⊥) → (cpu : ℕ)
     → AreTied about (slots_with slots None c.slot cpu (waiting_taken c call_kind named copies).call)
     (waiting_taken c call_kind named copies).tables
     (record (with_event notes came) { numbering = next_in notes.numbering c.slot })
     (waits g (about_home (record { kind = call_kind; area = is_some c.area }) (home_at number h.session h.instance))
     copies.params)
-session_waits about notes slots g c named number call_kind copies came w has h come cpu = record {
+session_waits about notes slots g c named number call_kind copies came w has h come other cpu = record {
   instances = w.instances;
   as_realm = as_come about.members.realm notes.sessions c.tables.next_session notes.next_session w.instances g _ come
-      w.tied.session_names w.as_realm;
+      w.tied.session_names w.as_realm
+      (λ one. put g.calls g.entered (fresh_call at (Waits copies.params))
+      (opens_of about.members.realm notes.next_session w.instances g w.as_realm one) (λ params kinds waits. other kinds));
   tied = call_waits about.members (names_of about notes w.instances) slots c.tables g cpu call at copies.params last registered
       w.free w.none
       (λ kept. record {
@@ -245,7 +247,8 @@ invoke_waits about notes slots g c named copies w is alive held params came wait
           (machine.invokes about.members.app g c.head.func (Copied copies.params) (is_some c.area)) o)) h.home_is
           ∙ ap (λ (o : Option Group). option_map silent o) living;
       tied = session_waits about notes slots g c named number (kind.Invoke c.head.func) copies
-          (event.Invoke number c.head.func (Copied copies.params) (is_some c.area)) w has h come;
+          (event.Invoke number c.head.func (Copied copies.params) (is_some c.area)) w has h come
+          (λ no. cc);
     } in
     subst (ComesIn about notes slots g c.slot (waiting_taken c (kind.Invoke c.head.func) named copies))
     (some_same (event.Invoke number c.head.func (Copied copies.params) (is_some c.area)) came onward) comes)
@@ -270,8 +273,7 @@ close_waits about notes slots g c named w is held params came waiting comes_as n
           ∙ ap (λ (m : Group). Some (silent m))
           (is_waiting about notes w.instances g named at.0 coming no_params
           (machine.closing_points about.members.app g at.0 h.session.instance) h held);
-      tied = session_waits about notes slots g c named at.0 kind.Close no_copies (event.Close at.0 (is_some c.area)) w
-          has h come;
+      tied = session_waits about notes slots g c named at.0 kind.Close no_copies (event.Close at.0 (is_some c.area)) w has h come (λ no. cc);
     } in
     subst (ComesIn about notes slots g c.slot (waiting_taken c kind.Close named no_copies)) at.2 comes
 

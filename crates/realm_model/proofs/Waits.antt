@@ -4,14 +4,12 @@ use Rattle.std.specs.Prelude.{IsSome, cond, is_some, map, slice_get}
 use Rattle.std.specs.Option.{option_and_then}
 use Rattle.std.proofs.lemmas.List.{map-append}
 use Rattle.std.proofs.lemmas.List.Elements.{All-append, All-cons, All-nil, filter-append}
-use Rattle.std.proofs.lemmas.Slice.Eq.{bytes_eq-Decides}
 use Rattle.base.specs.NumberMap.{NumberMap, get, insert}
 use Rattle.session_table.specs.declared.waiters.Waiter.{Waiter}
 use Rattle.shm_registry.specs.Registered.{Registered}
 use Rattle.ta_params.specs.declared.copied_params.CopiedParams.{CopiedParams}
-use Rattle.kernel_model.specs.Application.{Application, uuid_of}
+use Rattle.kernel_model.specs.Application.{uuid_of}
 use Rattle.kernel_model.specs.Kernel.{Active, Free, Instance, PendingCall, Tables, ThreadSlot, Waits}
-use Rattle.kernel_model.specs.Sound.{unmarked}
 use Rattle.kernel_model.proofs.Parts.{set_other}
 use Rattle.own_model.proofs.Maps.{get-insert-other, get-insert-same}
 use Rattle.own_model.proofs.OwnTaken.{instance_stays, numbered_apart}
@@ -23,7 +21,7 @@ use Rattle.group_model.specs.Tied.{AreOthers, CallsAlike, IsTold, Names}
 use Rattle.realm_model.specs.Tied.{AreTiedInstances, AreTiedWaiters, IsOfRealm, Tied}
 use Rattle.group_model.specs.Tied.{found_at}
 use Rattle.realm_model.specs.Tied.{Members, waiting_of}
-use Rattle.group_model.proofs.Lines.{SameMarked, calls_taken, kept_taken, slots_with}
+use Rattle.group_model.proofs.Lines.{calls_taken, kept_taken, slots_with}
 use Rattle.group_model.proofs.Waits.{same_marked, tables_waiting, with_next}
 
 -- ---- those that wait

@@ -1,17 +1,14 @@
 -- Whom a call of the realm wakes is whom the machine's call wakes.
 use Rattle.std.proofs.Common.{◌≡◌, ℕ, Bool, true, false, cond, List, [], ◌∷◌, Option, Some, None, refl, ap, subst, sym}
 use Rattle.std.proofs.Common.{◌∙◌}
-use Rattle.std.specs.Prelude.{All, ◌==◌, find, if◌then◌else◌, is_some, map}
+use Rattle.std.specs.Prelude.{◌==◌, find, if◌then◌else◌, is_some, map}
 use Rattle.std.specs.Option.{option_map, option_map_or}
 use Rattle.std.proofs.lemmas.Bool.Decides.{Decides-eqb}
-use Rattle.std.proofs.lemmas.List.Elements.{All-head, All-tail}
-use Rattle.std.proofs.lemmas.Slice.Eq.{bytes_eq-Decides}
 use Rattle.base.specs.NumberMap.{NumberMap, get}
 use Rattle.job_model.specs.declared.call_kind.CallKind.{CallKind}
 use Rattle.job_model.specs.declared.call_kind.CallKind.TheVariants as kind
 use Rattle.session_table.specs.declared.waiters.Waiter.{Waiter}
 use Rattle.session_table.specs.Waiters.{first_of}
-use Rattle.kernel_model.specs.Application.{Application, uuid_of}
 use Rattle.kernel_model.specs.Exit.{woken_by}
 use Rattle.kernel_model.specs.Instances.{is_held}
 use Rattle.kernel_model.specs.Kernel.{PendingCall, Tables}
@@ -20,7 +17,7 @@ use Rattle.own_model.specs.Tied.{HoldersAlike}
 use Rattle.group_model.specs.Group.{Group, GroupCall, GroupWaiter}
 use Rattle.group_model.specs.Group as machine
 use Rattle.group_model.specs.Tied.{HomesAlike, found_at}
-use Rattle.realm_model.specs.Tied.{AreTiedInstances, AreTiedWaiters, IsOfRealm, waiting_of}
+use Rattle.realm_model.specs.Tied.{AreTiedInstances, AreTiedWaiters, waiting_of}
 use Rattle.group_model.proofs.Woken.{named_same}
 use Rattle.realm_model.specs.Tied.{Members}
 

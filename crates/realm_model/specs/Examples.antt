@@ -5,7 +5,7 @@ use Rattle.std.specs.Option.{option_map, option_and_then}
 use Rattle.event_journal.specs.declared.event.Event.{Event}
 use Rattle.job_model.specs.Point.{no_params}
 use Rattle.kernel_model.specs.Application.{Application, Booted}
-use Rattle.kernel_model.specs.Worked.{Move, Comes, Leaves, boot, boot_native, add, panic, wait, wait_unmasked}
+use Rattle.kernel_model.specs.Worked.{Move, Leaves, boot, boot_native, add, panic, wait, wait_unmasked}
 use Rattle.kernel_model.specs.Worked.{create_fails, open_fails, open_panics, adds, invokes}
 use Rattle.kernel_model.specs.Worked.{invokes_by, cancels, closes, call, call_of, offer, opens, resume, history_of}
 use Rattle.own_model.specs.Examples.{adds_inside, asks_in_area, asks_in_buffer, at_once, back_to, dies_awaited, masked_in_area}
@@ -14,11 +14,10 @@ use Rattle.own_model.specs.Own.{own_app}
 use Rattle.own_model.specs.declared.own_event.OwnInput.TheVariants.{Copied}
 use Rattle.own_model.specs.declared.own_reply.OwnReply.TheVariants as reply
 use Rattle.group_model.specs.Group.{group_machine_replies}
-use Rattle.group_model.specs.declared.group_event.GroupEvent.{GroupEvent}
 use Rattle.group_model.specs.declared.group_event.GroupEvent.TheVariants.{Invoke, Open, Out}
 use Rattle.group_model.specs.declared.group_reply.GroupReply.{GroupReply}
 use Rattle.realm_model.specs.Realm.{OneSession}
-use Rattle.realm_model.specs.Reading.{Comes as Happens, RealmEvent, TurnedAway, happened, realm_events, realm_replies}
+use Rattle.realm_model.specs.Reading.{Comes as Happens, RealmEvent, happened, realm_events, realm_replies}
 
 -- the session as a realm by moves from the boot on: what happens to it, what it is answered, and what the machine of a group
 -- of its application answers

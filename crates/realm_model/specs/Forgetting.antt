@@ -10,12 +10,13 @@ use Rattle.own_model.specs.declared.own_event.OwnEvent.TheVariants as own_event
 use Rattle.own_model.specs.declared.own_event.OwnInput.{OwnInput}
 use Rattle.own_model.specs.declared.own_event.OwnInput.TheVariants.{Copied, Faulty, Unread}
 use Rattle.ta_params.specs.declared.login.Login.{Login}
+use Rattle.group_model.specs.Embedding.{event_as}
 use Rattle.group_model.specs.Read as group
 use Rattle.group_model.specs.declared.group_event.GroupEvent.{GroupEvent}
 use Rattle.group_model.specs.declared.group_event.GroupEvent.TheVariants.{Open, Invoke, Close, Cancel, Seen, Room, Back}
 use Rattle.group_model.specs.declared.group_event.GroupEvent.TheVariants.{Out}
 use Rattle.group_model.specs.declared.group_reply.GroupReply.{GroupReply}
-use Rattle.realm_model.specs.Realm.{AllSessions, OneSession, Realm}
+use Rattle.realm_model.specs.Realm.{AllSessions, OneSession}
 use Rattle.realm_model.specs.Reading.{Comes, Logged, Notes, RealmEvent, TurnedAway, happened, noted, of_machine}
 use Rattle.realm_model.specs.Reading.{realm_events, realm_replies}
 
@@ -84,3 +85,8 @@ pub record GroupsAreRealms : Type 0 where
       group.group_events boot history app ≡ realm_events boot history (AllSessions app)
   pub replies : (boot : Booted) (history : List Event) (app : Application) →
       group.group_replies boot history app ≡ realm_replies boot history (AllSessions app)
+
+-- and told as events of a group, where the one session has number 0, the events of a session are its realm's
+abbrev pub SessionEventsAreRealms : Type 0
+SessionEventsAreRealms = (boot : Booted) (history : List Event) (session : ℕ) →
+    filter_map event_as (own.own_events boot history session) ≡ realm_events boot history (OneSession session)

@@ -52,8 +52,15 @@ names_of about notes instances = record {
   key = about.key;
 }
 
--- one session has one instance; and before its open has come, with the next number still 0, nobody is there
+-- no open among these calls waits
+abbrev pub OpensRun : NumberMap GroupCall → Type 0
+OpensRun calls = (number : ℕ) (own : GroupCall) (params : CopiedParams) → get calls number ≡ Some own →
+    own.kind ≡ kind.Open → own.phase ≡ Waits params → ⊥
+
+-- one session has one instance, and its open never waits; and before that has come, with the next number still 0, nobody is
+-- there
 pub record IsAsOne (next_session : ℕ) (instances : NumberMap ℕ) (g : Group) : Type 0 where
+  pub runs : OpensRun g.calls
   pub lone : (first second own other : ℕ) → get instances first ≡ Some own → get instances second ≡ Some other →
       first ≡ second
   pub fresh : next_session ≡ 0 → (g ≡ nobody_there g.key) × (instances ≡ [])
@@ -104,11 +111,6 @@ pub record IsRealm (boot : Booted) (members : Members) : Type 0 where
 abbrev pub IsOne : Realm → Type 0
 IsOne (OneSession member) = Unit {0}
 IsOne (AllSessions app) = ⊥
-
--- no open among these calls waits
-abbrev pub OpensRun : NumberMap GroupCall → Type 0
-OpensRun calls = (number : ℕ) (own : GroupCall) (params : CopiedParams) → get calls number ≡ Some own →
-    own.kind ≡ kind.Open → own.phase ≡ Waits params → ⊥
 
 -- how the calls of each kernel that a legal history comes to fit their sessions and instances, and those that wait
 pub record AreFitting (members : Members) (kernel : Kernel) : Type 0 where
@@ -195,7 +197,6 @@ OwnResumesKeepTied =
     (boot : Booted) (about : About) (kernel next : Kernel) (cpu steps number : ℕ) (regs : Regs) (reads : List Read)
     (call : PendingCall) (notes : Notes) (g : Group) →
     IsRealm boot about.members → about.key ≡ boot.key → AreFitting about.members kernel →
-    (IsOne about.members.realm → OpensRun g.calls) →
     call_of (reg regs.a 0) ≡ Resume → call_resumed_by kernel.slots regs.a ≡ Some call →
     get notes.numbering.in_slots (thread_in regs.a) ≡ Some number → IsInOrder g →
     GoesAlongWith boot about kernel next (Entry cpu regs steps reads) notes g

@@ -4,3 +4,4 @@ pub mod Forgetting
 pub mod Tied
 pub mod Laws
 pub mod Examples
+pub mod Histories

@@ -1,6 +1,6 @@
 -- What happens to a realm in a history and what it is answered, read off the kernels that the history goes through: which
 -- call a slot holds after an entry, what its resume gave it, and what an exit has it go out with. This project's own.
-use Rattle.std.specs.Prelude.{ℕ, ◌+◌, ◌==◌, ◌&&◌, not, Bool, List, [], ◌∷◌, ◌++◌, Option, Some, None, slice_get, is_some}
+use Rattle.std.specs.Prelude.{ℕ, ◌+◌, ◌==◌, ◌&&◌, not, List, [], ◌∷◌, ◌++◌, Option, Some, None, slice_get, is_some}
 use Rattle.std.specs.Prelude.{map, filter, filter_map, if◌then◌else◌}
 use Rattle.std.specs.List.{list_any}
 use Rattle.std.specs.Option.{option_map, option_map_or, option_and_then}
@@ -17,7 +17,7 @@ use Rattle.kernel_model.specs.Codes.{success}
 use Rattle.kernel_model.specs.Exit.{progress_in_slot}
 use Rattle.kernel_model.specs.Given.{Given, given_to}
 use Rattle.kernel_model.specs.History.{after_event}
-use Rattle.kernel_model.specs.Kernel.{CallPhase, Runs, Asks, Waits, Ends, SettledCall, Untold, AnOpen, AnInvoke, ACancel}
+use Rattle.kernel_model.specs.Kernel.{CallPhase, Ends, SettledCall, Untold, AnOpen, AnInvoke, ACancel}
 use Rattle.kernel_model.specs.Kernel.{PendingCall, Progress, ThreadSlot, Free, Active, Suspended, Errand, Fixed, InSlot}
 use Rattle.kernel_model.specs.Kernel.{Processor, Inside, Kernel, Tables, Visit, first_kernel}
 use Rattle.kernel_model.specs.Leaving.{Leaving, Interrupted, Finishes, leaving_of}

@@ -6,7 +6,7 @@ use Rattle.ta_params.specs.declared.call_result.CallResult.{CallResult}
 use Rattle.ta_params.specs.declared.login.Login.{Login}
 use Rattle.kernel_model.specs.Application.{Application, Booted}
 use Rattle.kernel_model.specs.Begin.{has_pages_for}
-use Rattle.kernel_model.specs.Kernel.{CallPhase, Runs, Asks, Waits, Ends, PendingCall, Tables}
+use Rattle.kernel_model.specs.Kernel.{CallPhase, Runs, PendingCall, Tables}
 use Rattle.own_model.specs.Parameters.{params_of}
 use Rattle.own_model.specs.declared.own_event.OwnInput.TheVariants.{Copied}
 use Rattle.group_model.specs.Read.{finds_it_gone, is_open_of, open_event_in, settled_open_event}

@@ -10,7 +10,8 @@
 //! # What is proved
 //!
 //! - What is noted of a session by any history is what is noted of its realm with the numbers of sessions forgotten
-//!   (`sessions_are_realms`), and what is noted of a group is what is noted of its realm (`groups_are_realms`).
+//!   (`sessions_are_realms`), so that its events, told as those of a group, are the realm's (`session_events_are_realms`); and
+//!   what is noted of a group is what is noted of its realm (`groups_are_realms`).
 //! - On the worked histories of sessions the machine of a group answers to a session's events what the session was
 //!   answered (`worked_examples`).
 //! - As a kernel boots it is tied to the machine of each realm (`boots_are_tied`); tied they stay by a fixed answer
@@ -18,12 +19,21 @@
 //!   (`exits_of_others_keep_realms`, `resumes_of_others_keep_realms`, `calls_of_others_keep_realms`), by its new calls
 //!   (`own_calls_keep_realms`), by an interrupt of a call of the realm (`interrupts_keep_realms`) and by its other exits and resumes
 //!   (`own_exits_keep_realms`, `own_resumes_keep_realms`).
+//! - In each legal history the machine of a realm, which has the realm's events alone, answers as the realm was answered
+//!   (`realms_are_answered`); so two realms of one application to which the same has happened were answered the same
+//!   (`same_realm_events_get_same_replies`), and a group's own law follows (`groups_are_answered_so`).
 #![tactic(auto)]
 
+mod histories;
 mod realms;
 mod ties;
 
-pub use realms::{groups_are_realms, sessions_are_realms, worked_examples};
+pub use histories::{
+    groups_are_answered_so, realms_are_answered, same_realm_events_get_same_replies,
+};
+pub use realms::{
+    groups_are_realms, session_events_are_realms, sessions_are_realms, worked_examples,
+};
 pub use ties::{
     boots_are_tied, calls_of_others_keep_realms, exits_of_others_keep_realms,
     fixed_answers_keep_realms, interrupts_keep_realms, own_calls_keep_realms,

@@ -1,0 +1,68 @@
+-- Isolation of realms: whatever else happens in a legal history, the machine of a realm, which has the realm's events alone,
+-- answers as the realm was answered. This project's own.
+use Rattle.std.specs.Prelude.{◌≡◌, ℕ, ◌*◌, ◌≤◌, List, Some, slice_get}
+use Rattle.event_journal.specs.declared.event.Event.{Event}
+use Rattle.event_journal.specs.declared.event.Event.TheVariants.{Entry}
+use Rattle.ns_ram.specs.declared.read.Read.{Read}
+use Rattle.smc_abi.specs.declared.regs.Regs.{Regs}
+use Rattle.kernel_model.specs.Application.{Application, Booted}
+use Rattle.kernel_model.specs.Argument.{IsNew}
+use Rattle.kernel_model.specs.Kernel.{Active, InSlot, Inside, Kernel, PendingCall}
+use Rattle.kernel_model.specs.Sound.{AreGranted}
+use Rattle.own_model.specs.Isolation.{IsSessionOf, steps_in}
+use Rattle.group_model.specs.Group.{Group, group_machine_replies}
+use Rattle.group_model.specs.InOrder.{IsInOrder}
+use Rattle.group_model.specs.Isolation.{IsGroupOf}
+use Rattle.group_model.specs.Laws.{IsSound}
+use Rattle.group_model.specs.declared.group_event.GroupEvent.{GroupEvent}
+use Rattle.realm_model.specs.Realm.{AllSessions, OneSession, Realm}
+use Rattle.realm_model.specs.Reading.{Notes, event_of, realm_events, realm_replies}
+use Rattle.realm_model.specs.Laws.{About, AreFitting, ComesAs, GoesAlongWith, IsRealm}
+
+-- ---- each event
+
+-- what is known of a kernel that a legal history has come to, and of the machine then, after so many events
+pub record IsReady (about : About) (events : ℕ) (kernel : Kernel) (g : Group) : Type 0 where
+  pub sound : IsSound kernel
+  pub fitting : AreFitting about.members kernel
+  pub steps : AreGranted events kernel
+  pub most : 1000000 * events ≤ about.most
+  pub order : IsInOrder g
+
+-- a new call of the realm that comes in with the event comes as one of it does
+abbrev pub ComesSo : About → Kernel → Event → Notes → Type 0
+ComesSo about next happened notes =
+    (cpu steps slot : ℕ) (regs : Regs) (reads : List Read) (now : PendingCall) (came : GroupEvent) →
+    happened ≡ Entry cpu regs steps reads → IsNew regs.a →
+    slice_get next.processors cpu ≡ Some (Inside regs.a steps (InSlot slot)) →
+    slice_get next.slots slot ≡ Some (Active cpu now) →
+    event_of about.members.realm next.tables notes now now.kind ≡ Some came →
+    ComesAs about.members.realm about.members.app notes now now.kind
+
+-- the machine goes along with each event
+abbrev pub EventsKeepTied : Type 0
+EventsKeepTied = (boot : Booted) (about : About) (events : ℕ) (kernel next : Kernel) (happened : Event) (notes : Notes)
+    (g : Group) → IsRealm boot about.members → about.key ≡ boot.key → IsReady about events kernel g →
+    ComesSo about next happened notes → GoesAlongWith boot about kernel next happened notes g
+
+-- ---- whole histories
+
+-- the realm is of this application, in a legal history
+abbrev pub IsRealmOf : Booted → List Event → Realm → Application → Type 0
+IsRealmOf boot history (OneSession member) app = IsSessionOf boot history member app
+IsRealmOf boot history (AllSessions of) app = (of ≡ app) × IsGroupOf boot history app
+
+-- it is answered as its machine answers to its events
+abbrev pub AnsweredAsARealm : Type 0
+AnsweredAsARealm = (boot : Booted) (history : List Event) (realm : Realm) (app : Application) →
+    IsRealmOf boot history realm app →
+    group_machine_replies (steps_in history) app boot.key (realm_events boot history realm)
+    ≡ Some (realm_replies boot history realm)
+
+-- so in two worlds: after any two legal histories, of any two boots that have the same key, realms of one application to which
+-- the same has happened were answered the same
+abbrev pub SameRealmEventsSameReplies : Type 0
+SameRealmEventsSameReplies = (boot another : Booted) (history other : List Event) (realm second : Realm) (app : Application) →
+    boot.key ≡ another.key → IsRealmOf boot history realm app → IsRealmOf another other second app →
+    realm_events boot history realm ≡ realm_events another other second →
+    realm_replies boot history realm ≡ realm_replies another other second

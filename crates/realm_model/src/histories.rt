@@ -1,0 +1,20 @@
+//! What is answered to a realm in a whole history.
+ghost use Rattle.group_model.specs.Isolation.{AnsweredAsAGroup};
+ghost use Rattle.realm_model.specs.Histories.{AnsweredAsARealm, SameRealmEventsSameReplies};
+
+/// The machine of a realm, which has the realm's events alone, answers as the realm was answered, whatever else happens: one
+/// session of an application whose sessions share no instance, and all sessions of one whose sessions share one.
+pub fn realms_are_answered()
+    ensures { AnsweredAsARealm }
+{}
+
+/// So in two worlds: realms of one application to which the same has happened were answered the same, after any two legal
+/// histories of any two boots that have the same key.
+pub fn same_realm_events_get_same_replies()
+    ensures { SameRealmEventsSameReplies }
+{}
+
+/// What `group_model` says of a group follows from this, in the same words.
+pub fn groups_are_answered_so()
+    ensures { AnsweredAsAGroup }
+{}
