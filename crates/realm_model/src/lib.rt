@@ -3,7 +3,8 @@
 //! The crate is one of definitions and laws. `specs/` reads in the order of its modules: `Realm` says who the members are, and
 //! all that differs between one session and all sessions of an application; `Reading` reads a realm's events and replies off
 //! the kernels that a history goes through; `Forgetting` says what a session's and a group's readings are of it; `Tied` says
-//! when a kernel and the machine of a realm, which is that of a group, do the same next, by names of instances alone.
+//! when a kernel and the machine of a realm, which is that of a group, do the same next, by names of instances alone; `Laws`
+//! says what holds of the two at each event, and `Histories` what is answered in a whole history. `Examples` is computed.
 //!
 //! Nothing here touches RAM, a port or a thread.
 //!
