@@ -1,5 +1,5 @@
 -- The machine of a realm goes along with a whole history, where what is known of the realm goes along too.
-use Rattle.std.proofs.Common.{◌≡◌, ℕ, suc, ◌+◌, List, [], ◌∷◌, ◌++◌, length, Option, Some, None, refl, ap, subst}
+use Rattle.std.proofs.Common.{◌≡◌, ℕ, suc, List, [], ◌∷◌, ◌++◌, length, Option, Some, None, refl, ap, subst}
 use Rattle.std.proofs.Common.{sym, ◌∙◌}
 use Rattle.std.specs.Prelude.{filter_map, map}
 use Rattle.std.specs.Option.{option_and_then, option_map, option_map_or}

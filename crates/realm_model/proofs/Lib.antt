@@ -38,3 +38,6 @@ pub mod OneAnswered
 pub mod Answered
 pub mod TwoWorlds
 pub mod SessionEvents
+pub mod SessionReplies
+pub mod OpensFirst
+pub mod AloneAnswered

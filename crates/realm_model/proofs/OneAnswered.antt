@@ -61,7 +61,7 @@ use Rattle.realm_model.proofs.Sessions.{SameEvent, event_same, happened_same}
 -- ---- events of the session
 
 -- where an event is noted of the realm, one is noted of the session
-same_noted : (member : ℕ) (tables : Tables) (notes : Notes) (call : PendingCall) (came : GroupEvent)
+pub same_noted : (member : ℕ) (tables : Tables) (notes : Notes) (call : PendingCall) (came : GroupEvent)
     → event_of (OneSession member) tables notes call call.kind ≡ Some came
     → (event : OwnEvent) × (own.event_of member call ≡ Some event)
 same_noted member tables notes call came noted =
@@ -94,7 +94,7 @@ open_uuid member call event notes opens noted =
     in_kind kind.Settled phase is e = absurd cc
 
 -- once the session has its number, no open of it is noted
-never_opens : (boot : Booted) (member : ℕ) (kernel next : Kernel) (cpu steps slot : ℕ) (regs : Regs) (reads : List Read)
+pub never_opens : (boot : Booted) (member : ℕ) (kernel next : Kernel) (cpu steps slot : ℕ) (regs : Regs) (reads : List Read)
     (now : PendingCall) (event : OwnEvent) → member < kernel.tables.next_session → IsNew regs.a
     → slice_get next.processors cpu ≡ Some (Inside regs.a steps (InSlot slot))
     → slice_get next.slots slot ≡ Some (Active cpu now) → after_event boot kernel (Entry cpu regs steps reads) ≡ Some next
@@ -116,9 +116,9 @@ never_opens boot member kernel next cpu steps slot regs reads now event given is
 -- ---- what is known of the session
 
 -- before its open
-record IsEarly (member : ℕ) (kernel : Kernel) (notes : Notes) : Type 0 where
-  nothing : own_part notes ≡ own.no_notes
-  lower : kernel.tables.next_session ≤ member
+pub record IsEarly (member : ℕ) (kernel : Kernel) (notes : Notes) : Type 0 where
+  pub nothing : own_part notes ≡ own.no_notes
+  pub lower : kernel.tables.next_session ≤ member
 
 -- and behind it
 record IsOpened (member : ℕ) (kernel : Kernel) (notes : Notes) : Type 0 where
@@ -320,7 +320,8 @@ module _ (boot : Booted) (member : ℕ) (app : Application) (history : List Even
       → (event_noted boot (OneSession member) kernel on.next notes happened).next_session
       ≤ (event_noted boot (OneSession member) kernel on.next notes happened).numbering.entered
   few_so past events kernel happened notes few on =
-      behind_event (λ sessions next_session entered. next_session ≤ entered) boot (OneSession member) kernel on.next happened
+      behind_event (λ sessions next_session entered log. next_session ≤ entered)
+      (λ sessions next_session entered log last other holds. holds) boot (OneSession member) kernel on.next happened
       notes few
       (λ cpu steps slot regs reads now came is_entry is inside there noted. by_kind slot now came now.kind refl) on.comes
     where
@@ -349,7 +350,8 @@ module _ (boot : Booted) (member : ℕ) (app : Application) (history : List Even
       → (on : IsOn boot about.most past kernel happened events)
       → get (event_noted boot (OneSession member) kernel on.next notes happened).sessions member ≡ Some 0
   named_so past events kernel happened notes opened on =
-      behind_event (λ sessions next_session entered. get sessions member ≡ Some 0) boot (OneSession member) kernel on.next
+      behind_event (λ sessions next_session entered log. get sessions member ≡ Some 0)
+      (λ sessions next_session entered log last other holds. holds) boot (OneSession member) kernel on.next
       happened notes opened.named
       (λ cpu steps slot regs reads now came is_entry is inside there noted.
       by_kind now came now.kind refl
@@ -454,7 +456,7 @@ none_before : (n : ℕ) → 1 ≤ suc n
 none_before n = omega arith
 
 -- the first session has the number 1
-from_one : (boot : Booted) (history : List Event) (member : ℕ) (app : Application) → IsSessionOf boot history member app
+pub from_one : (boot : Booted) (history : List Event) (member : ℕ) (app : Application) → IsSessionOf boot history member app
     → IsAt boot (steps_in history) [] (first_kernel boot) history → (first_kernel boot).tables.next_session ≤ member
 from_one boot history (suc n) app s at = none_before n
 from_one boot history zero app s at =

@@ -21,13 +21,16 @@ use Rattle.kernel_model.specs.Leaving.{FreesBuffer, Finishes, Interrupted, Leavi
 use Rattle.kernel_model.proofs.Parts.{if-both, map_or-both}
 use Rattle.own_model.specs.Own.{Entering, is_limit, is_of_client, reply_of, wake_kept, wake_of}
 use Rattle.own_model.specs.declared.own_event.OwnEvent.{OwnEvent}
+use Rattle.own_model.specs.declared.own_reply.OwnReply.TheVariants as reply
+use Rattle.group_model.proofs.RepliesTold.{has_reply}
 use Rattle.group_model.specs.Embedding.{event_as}
+use Rattle.group_model.specs.Group.{plain}
 use Rattle.group_model.specs.Read.{invoke_event}
 use Rattle.group_model.specs.declared.group_event.GroupEvent.{GroupEvent}
-use Rattle.group_model.specs.declared.group_event.GroupEvent.TheVariants.{Close, Invoke, Out}
+use Rattle.group_model.specs.declared.group_event.GroupEvent.TheVariants.{Close, Out}
 use Rattle.group_model.specs.declared.group_reply.GroupReply.{GroupReply}
 use Rattle.realm_model.specs.Realm.{OneSession, open_of}
-use Rattle.realm_model.specs.Reading.{Comes, Logged, Notes, Watched, back_noted, entry_noted, event_noted}
+use Rattle.realm_model.specs.Reading.{machine_event, RealmEvent, TurnedAway, Comes, Logged, Notes, Watched, back_noted, entry_noted, event_noted}
 use Rattle.realm_model.specs.Reading.{event_of, exit_noted, noted, noted_from, numbered, of_machine, opened_in}
 use Rattle.realm_model.specs.Reading.{out_noted, resume_noted, seen_noted, sessions_with, settled_event}
 use Rattle.realm_model.specs.Reading.{settled_event_in, slot_noted, with_event, with_reply}
@@ -36,9 +39,9 @@ use Rattle.realm_model.proofs.Sessions.{sessions_are_realms}
 
 -- ---- one event
 
--- with its number forgotten and given again it is the same
+-- with its number forgotten and given again it is the same, and it has no reply
 abbrev IsBack : GroupEvent → Type 0
-IsBack came = option_and_then event_as (forgotten came) ≡ Some came
+IsBack came = (option_and_then event_as (forgotten came) ≡ Some came) × (has_reply came ≡ false)
 
 abbrev IfBack : Option GroupEvent → Type 0
 IfBack None = Unit {0}
@@ -60,23 +63,23 @@ told_back false came back = tt
 
 open_back : (member : ℕ) (tables : Tables) (call : PendingCall) (phase : CallPhase)
     → IfBack (open_of (OneSession member) tables call phase)
-open_back member tables call (Runs job) = if_back (call.session == member) _ refl
+open_back member tables call (Runs job) = if_back (call.session == member) _ (refl, refl)
 open_back member tables call (Asks job wanted payload) = tt
 open_back member tables call (Waits params) = tt
 open_back member tables call (Ends result params told wakes) = tt
 
 invoke_back : (func : ℕ) (area : Bool) (phase : CallPhase) → IfBack (invoke_event 0 func area phase)
-invoke_back func area (Runs job) = refl
+invoke_back func area (Runs job) = (refl, refl)
 invoke_back func area (Asks job wanted payload) = tt
-invoke_back func area (Waits params) = refl
+invoke_back func area (Waits params) = (refl, refl)
 invoke_back func area (Ends result params told wakes) = tt
 
 settled_back : (member : ℕ) (notes : Notes) (call : PendingCall) (settled : SettledCall) (result : CallResult)
     → IfBack (settled_event (OneSession member) notes call settled result)
 settled_back member notes call Untold result = tt
 settled_back member notes call (AnOpen login) result = tt
-settled_back member notes call (AnInvoke func) result = told_back (call.session == member) _ refl
-settled_back member notes call ACancel result = told_back (call.session == member) _ refl
+settled_back member notes call (AnInvoke func) result = told_back (call.session == member) _ (refl, refl)
+settled_back member notes call ACancel result = told_back (call.session == member) _ (refl, refl)
 
 settled_in_back : (member : ℕ) (notes : Notes) (call : PendingCall) (phase : CallPhase)
     → IfBack (settled_event_in (OneSession member) notes call phase)
@@ -92,15 +95,23 @@ event_back member tables notes call (kind.Invoke func) =
     number_back (call.session == member) (λ session. invoke_event session func (is_some call.area) call.phase)
     (invoke_back func (is_some call.area) call.phase)
 event_back member tables notes call kind.Close =
-    told_back (call.session == member) (λ session. Close session (is_some call.area)) refl
+    told_back (call.session == member) (λ session. Close session (is_some call.area)) (refl, refl)
 event_back member tables notes call kind.Settled = settled_in_back member notes call call.phase
 
 -- ---- all that is noted
 
-abbrev Fits : Logged → Type 0
-Fits logged =
-    option_and_then event_as (own_event_of logged.0)
-    ≡ option_map (λ (item : GroupEvent × Option GroupReply). item.0) (of_machine logged)
+-- a call that goes out has a reply, and so has one that was turned away
+abbrev pub IsToldSo : RealmEvent → Option GroupReply → Type 0
+IsToldSo (Comes came) told = is_some told ≡ has_reply came
+IsToldSo TurnedAway told = told ≡ Some (plain reply.Limited)
+
+abbrev pub IsTheSame : RealmEvent → Option GroupReply → Type 0
+IsTheSame came told =
+    option_and_then event_as (own_event_of came)
+    ≡ option_map (λ (item : GroupEvent × Option GroupReply). item.0) (machine_event came told)
+
+abbrev pub Fits : Logged → Type 0
+Fits logged = IsTheSame logged.0 logged.1 × IsToldSo logged.0 logged.1
 
 abbrev Fit : Notes → Type 0
 Fit notes = AllByRecursion Fits notes.log
@@ -109,7 +120,7 @@ added : (log : List Logged) (last : Logged) → AllByRecursion Fits log → Fits
 added [] last all fits = (fits, tt)
 added (first ∷ log) last all fits = (all.0, added log last all.1 fits)
 
-log_stays : (call_kind : CallKind) (notes : Notes) (call : PendingCall) → (sessions_with call_kind notes call).log ≡ notes.log
+pub log_stays : (call_kind : CallKind) (notes : Notes) (call : PendingCall) → (sessions_with call_kind notes call).log ≡ notes.log
 log_stays kind.Open notes call = refl
 log_stays (kind.Invoke func) notes call = refl
 log_stays kind.Close notes call = refl
@@ -120,15 +131,15 @@ call_fits : (notes : Notes) (slot : ℕ) (call : PendingCall) (found : Option Gr
 call_fits notes slot call None fit back = fit
 call_fits notes slot call (Some came) fit back =
     subst (λ (log : List Logged). AllByRecursion Fits log) (sym (log_stays call.kind (with_event notes came) call))
-    (added notes.log (Comes came, None) fit back)
+    (added notes.log (Comes came, None) fit (back.0, sym back.1))
 
 back_fits : (notes : Notes) (number : ℕ) (leaving : Leaving) (came : Given) → Fit notes
     → Fit (back_noted notes number leaving came)
 back_fits notes number Interrupted came fit = fit
-back_fits notes number WantsBuffer came fit = added notes.log _ fit refl
-back_fits notes number (Requests place request) came fit = added notes.log _ fit refl
-back_fits notes number (FreesBuffer buffer) came fit = added notes.log _ fit refl
-back_fits notes number (Finishes result params) came fit = added notes.log _ fit refl
+back_fits notes number WantsBuffer came fit = added notes.log _ fit (refl, refl)
+back_fits notes number (Requests place request) came fit = added notes.log _ fit (refl, refl)
+back_fits notes number (FreesBuffer buffer) came fit = added notes.log _ fit (refl, refl)
+back_fits notes number (Finishes result params) came fit = added notes.log _ fit (refl, refl)
 
 abbrev watched : Booted → ℕ → Entering → Watched
 watched boot member at = record { boot = boot; realm = OneSession member; entering = at }
@@ -137,7 +148,7 @@ resume_fits : (boot : Booted) (member : ℕ) (at : Entering) (slot : ℕ) (befor
     → Fit notes → Fit (resume_noted (watched boot member at) slot before now notes number)
 resume_fits boot member at slot before now notes number fit =
     let seen : Fit (seen_noted notes number before now) =
-    if-both Fit (now.seen && not before.seen) _ notes (added notes.log _ fit refl) fit in
+    if-both Fit (now.seen && not before.seen) _ notes (added notes.log _ fit (refl, refl)) fit in
     map_or-both Fit _ (reading (given_to at.visit.regs slot before) at.reads) (seen_noted notes number before now)
     (λ came. back_fits (seen_noted notes number before now) number (leaving_of slot before) came seen) seen
 
@@ -174,14 +185,14 @@ exit_fits member notes slot call number fit =
     let woken : Option ℕ = wake_kept notes.numbering slot (wake_of call.phase) in
     let opened : Option ℕ = opened_in (OneSession member) notes call call.kind leaving in
     map_or-both Fit (with_reply number notes opened) (reply_of woken call.phase leaving) notes
-    (λ told. added notes.log (Comes (Out number), Some (record { reply = told; opened = opened })) fit refl) fit
+    (λ told. added notes.log (Comes (Out number), Some (record { reply = told; opened = opened })) fit (refl, refl)) fit
 
 out_fits : (member : ℕ) (kernel : Kernel) (notes : Notes) (cpu : ℕ) (processor : Option Processor) → Fit notes
     → Fit (out_noted (OneSession member) kernel notes cpu processor)
 out_fits member kernel notes cpu None fit = fit
 out_fits member kernel notes cpu (Some Outside) fit = fit
 out_fits member kernel notes cpu (Some (Inside regs steps (Fixed answer))) fit =
-    if-both Fit (list_any (λ away. away == cpu) notes.turned_away) _ notes (added notes.log _ fit refl) fit
+    if-both Fit (list_any (λ away. away == cpu) notes.turned_away) _ notes (added notes.log _ fit (refl, refl)) fit
 out_fits member kernel notes cpu (Some (Inside regs steps (InSlot slot))) fit =
     map_or-both Fit _ (progress_in_slot kernel steps slot) notes
     (λ (progress : Progress). map_or-both Fit (exit_noted (OneSession member) notes slot progress.call)
@@ -212,7 +223,7 @@ events_back : (log : List Logged) → AllByRecursion Fits log
     → filter_map event_as (filter_map own_event_of (map (λ (logged : Logged). logged.0) log))
     ≡ map (λ (item : GroupEvent × Option GroupReply). item.0) (filter_map of_machine log)
 events_back [] all = refl
-events_back (logged ∷ log) all = one (own_event_of logged.0) (of_machine logged) all.0 (events_back log all.1)
+events_back (logged ∷ log) all = one (own_event_of logged.0) (of_machine logged) all.0.0 (events_back log all.1)
   where
     one : (came : Option OwnEvent) (item : Option (GroupEvent × Option GroupReply))
         → option_and_then event_as came ≡ option_map (λ (it : GroupEvent × Option GroupReply). it.0) item
@@ -230,8 +241,12 @@ events_back (logged ∷ log) all = one (own_event_of logged.0) (of_machine logge
         (filter_map event_as (filter_map own_event_of (map (λ (it : Logged). it.0) log)))) same
         ∙ ap (λ (es : List GroupEvent). item.0 ∷ es) rest
 
+-- all that is noted of a session fits
+pub session_log_fits : (boot : Booted) (history : List Event) (session : ℕ)
+    → AllByRecursion Fits (noted boot history (OneSession session)).log
+session_log_fits boot history session = from_fits boot session (first_kernel boot) _ history tt
+
 pub session_events_are_realms : SessionEventsAreRealms
 session_events_are_realms boot history session =
     ap (λ (events : List OwnEvent). filter_map event_as events) (sessions_are_realms.events boot history session)
-    ∙ events_back (noted boot history (OneSession session)).log
-    (from_fits boot session (first_kernel boot) _ history tt)
+    ∙ events_back (noted boot history (OneSession session)).log (session_log_fits boot history session)

@@ -339,7 +339,7 @@ from_same boot member kernel notes (happened ∷ events) =
 
 -- ---- its events
 
-events_forgotten : (log : List Logged)
+pub events_forgotten : (log : List Logged)
     → map (λ (logged : own.Logged). logged.0) (filter_map own_logged log)
     ≡ filter_map own_event_of (map (λ (logged : Logged). logged.0) log)
 events_forgotten [] = refl

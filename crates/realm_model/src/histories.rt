@@ -1,5 +1,6 @@
 //! What is answered to a realm in a whole history.
 ghost use Rattle.group_model.specs.Isolation.{AnsweredAsAGroup};
+ghost use Rattle.own_model.specs.Isolation.{AnsweredAsAlone};
 ghost use Rattle.realm_model.specs.Histories.{AnsweredAsARealm, SameRealmEventsSameReplies};
 
 /// The machine of a realm, which has the realm's events alone, answers as the realm was answered, whatever else happens: one
@@ -17,4 +18,9 @@ pub fn same_realm_events_get_same_replies()
 /// What `group_model` says of a group follows from this, in the same words.
 pub fn groups_are_answered_so()
     ensures { AnsweredAsAGroup }
+{}
+
+/// And so does what `own_model` says of a session: its machine takes what that of a group does, and replies the same.
+pub fn sessions_are_answered_so()
+    ensures { AnsweredAsAlone }
 {}
