@@ -34,6 +34,8 @@ pub mod Along
 pub mod AllAnswered
 pub mod OpenRuns
 pub mod NotesStay
+pub mod EarlyCalls
+pub mod EarlyEvents
 pub mod OneAnswered
 pub mod Answered
 pub mod TwoWorlds

@@ -1,6 +1,6 @@
 -- One session whose application's sessions share no instance is answered as its machine: its open comes first, and is of its
 -- application, and each other call comes behind it.
-use Rattle.std.proofs.Common.{◌≡◌, ℕ, zero, suc, ◌+◌, ◌<◌, ◌≤◌, Bool, true, false, List, [], ◌∷◌, ◌++◌, Option, Some, None, refl}
+use Rattle.std.proofs.Common.{◌≡◌, ℕ, zero, suc, ◌+◌, ◌<◌, ◌≤◌, Bool, List, [], ◌∷◌, ◌++◌, Option, Some, None, refl}
 use Rattle.std.proofs.Common.{ap, subst, sym, ◌∙◌, arith, ◌⊎◌, inl, inr}
 use Rattle.std.specs.Prelude.{if◌then◌else◌, is_some, slice_get}
 use Rattle.std.specs.Option.{option_and_then, option_map, option_map_or}
@@ -16,17 +16,12 @@ use Rattle.smc_abi.specs.declared.regs.Regs.{Regs}
 use Rattle.kernel_model.specs.Application.{Application, Booted, uuid_of}
 use Rattle.kernel_model.specs.Argument.{IsNew}
 use Rattle.kernel_model.specs.History.{after_event, kernel_after}
-use Rattle.kernel_model.specs.Instances.{app_of, is_single}
+use Rattle.kernel_model.specs.Instances.{app_of}
 use Rattle.kernel_model.specs.Kernel.{Active, Asks, CallPhase, Ends, InSlot, Inside, Kernel, PendingCall, Runs}
-use Rattle.kernel_model.specs.Kernel.{Free, Suspended, Tables, ThreadSlot, Waits, first_kernel}
-use Rattle.kernel_model.specs.Sound as sound
-use Rattle.kernel_model.specs.Sound.{unmarked}
-use Rattle.kernel_model.proofs.OfOneApp.{HasOpen}
+use Rattle.kernel_model.specs.Kernel.{Tables, Waits, first_kernel}
 use Rattle.kernel_model.proofs.Parts.{some_of}
 use Rattle.kernel_model.proofs.SoundNumbers.{numbered, numbers_rise}
-use Rattle.own_model.proofs.Before.{Another, Coming, ItsOpen, Shares, early_call}
 use Rattle.own_model.proofs.BelowNumbers.{AreBelow, below_numbers}
-use Rattle.own_model.proofs.EarlyEvents.{EarlyNext, NowNameless, NowOpen, NowShared, StillEarly, early_next}
 use Rattle.own_model.proofs.Lookups.{app_named}
 use Rattle.own_model.proofs.NewEntries.{IsTaken}
 use Rattle.own_model.proofs.NewEntries as own_entries
@@ -35,13 +30,8 @@ use Rattle.own_model.proofs.UuidKept.{uuid_stays}
 use Rattle.own_model.proofs.WholeHistories.{IsAt, IsOn, from_first, uuid_on}
 use Rattle.own_model.proofs.WholeHistories as own_histories
 use Rattle.own_model.specs.Isolation.{IsSessionOf, steps_in}
-use Rattle.own_model.specs.Laws as own_laws
-use Rattle.own_model.specs.Laws.{about_next}
 use Rattle.own_model.specs.Own as own
-use Rattle.own_model.specs.Own.{Numbering}
 use Rattle.own_model.specs.Parameters.{params_of}
-use Rattle.own_model.specs.Solo.{Solo}
-use Rattle.own_model.specs.Tied.{call_at, call_in}
 use Rattle.own_model.specs.declared.own_event.OwnEvent.{OwnEvent}
 use Rattle.own_model.specs.declared.own_event.OwnEvent.TheVariants as own_event
 use Rattle.group_model.proofs.InOrder.{stays_in_order}
@@ -55,6 +45,8 @@ use Rattle.realm_model.specs.Realm.{OneSession, Realm, number_in}
 use Rattle.realm_model.specs.Forgetting.{own_part}
 use Rattle.realm_model.proofs.Along.{Course, Ended, tied_on}
 use Rattle.realm_model.proofs.Boots.{boots_tied}
+use Rattle.realm_model.proofs.EarlyCalls.{Another, Coming, ItWaits, ItsOpen, early_call}
+use Rattle.realm_model.proofs.EarlyEvents.{EarlyNext, IsOpening, NowNameless, NowOpen, StillEarly, early_next}
 use Rattle.realm_model.proofs.NotesStay.{behind_event, was_free}
 use Rattle.realm_model.proofs.Sessions.{SameEvent, event_same, happened_same}
 
@@ -152,48 +144,23 @@ some_same a b e = cc
 one_call : (a b : PendingCall) → Some a ≡ Some b → a ≡ b
 one_call a b e = cc
 
--- a call of a slot, with what a cancel has marked of it
-held_call : (call : PendingCall) (found : Option ThreadSlot) → option_and_then sound.call_in found ≡ Some call
-    → (held : PendingCall) × (option_and_then call_in found ≡ Some held) × (unmarked held ≡ call)
-held_call call None e = absurd cc
-held_call call (Some Free) e = absurd cc
-held_call call (Some (Active cpu held)) e = (held, refl, one_call (unmarked held) call e)
-held_call call (Some (Suspended client held)) e = (held, refl, one_call (unmarked held) call e)
-
--- where one session's own tie has numbered its open, the realm's has named it
-named_behind : (about : About) (member : ℕ) (next : Kernel) (after : Notes) (now : own.Notes) (g : Group)
-    (its : own_laws.About) (solo : Solo) (uuid : List ℕ) → about.members.realm ≡ OneSession member
-    → own_part after ≡ now → its.session ≡ member → own_laws.AreTied its next now solo → HasOpen member uuid next
+-- where the open of one session is in a slot, the tie has named it
+named_behind : (about : About) (member : ℕ) (next : Kernel) (after : Notes) (g : Group)
+    → about.members.realm ≡ OneSession member → IsOpening member next (own_part after)
     → AreTied about next.slots next.tables after g → get after.sessions member ≡ Some 0
-named_behind about member next after now g its solo uuid is_one same of_member own_tied has tied =
-    by_number (get now.numbering.in_slots has.slot) refl
-  where
-    numbered_alike : after.numbering ≡ now.numbering
-    numbered_alike = ap (λ (n : own.Notes). n.numbering) same
+named_behind about member next after g is_one its tied =
+    let held = tied.tied.calls.own its.slot 0 its.number in
+    let same_call : held.call ≡ its.call = one_call held.call its.call (sym held.in_slot ∙ its.in_slot) in
+    let homes = subst (HomesAlike after.sessions tied.instances held.call held.own)
+    (ap (λ (c : PendingCall). c.kind) same_call ∙ its.opens) held.alike.homes in
+    let named : get after.sessions member ≡ Some held.own.session =
+    ap (λ n. get after.sessions n) (sym (ap (λ (c : PendingCall). c.session) same_call ∙ its.of_session)) ∙ homes.0 in
+    let given : number_in (OneSession member) after.sessions member ≡ Some held.own.session =
+    subst (λ (r : Realm). number_in r after.sessions member ≡ Some held.own.session) is_one
+    (tied.tied.named member held.own.session named) in
+    named ∙ sym given ∙ ap (λ (b : Bool). if b then Some 0 else None) ((Decides-eqb member member).1 refl)
 
-    held : (one : PendingCall) × (call_at next.slots has.slot ≡ Some one) × (unmarked one ≡ has.call)
-    held = held_call has.call (slice_get next.slots has.slot) has.in_slot
-
-    of_session : held.0.session ≡ member
-    of_session = ap (λ (c : PendingCall). c.session) held.2 ∙ has.of_session
-
-    by_number : (found : Option ℕ) → get now.numbering.in_slots has.slot ≡ found → get after.sessions member ≡ Some 0
-    by_number None none =
-        absurd ((own_tied.alone.others has.slot held.0 held.1 none).session_of_another (of_session ∙ sym of_member))
-    by_number (Some number) is =
-        let its_call = tied.tied.calls.own has.slot number
-        (ap (λ (n : Numbering). get n.in_slots has.slot) numbered_alike ∙ is) in
-        let same_call : its_call.call ≡ held.0 = one_call its_call.call held.0 (sym its_call.in_slot ∙ held.1) in
-        let homes = subst (HomesAlike after.sessions tied.instances its_call.call its_call.own)
-        (ap (λ (c : PendingCall). c.kind) same_call ∙ ap (λ (c : PendingCall). c.kind) held.2 ∙ has.opens) its_call.alike.homes in
-        let named : get after.sessions member ≡ Some its_call.own.session =
-        ap (λ n. get after.sessions n) (sym (ap (λ (c : PendingCall). c.session) same_call ∙ of_session)) ∙ homes.0 in
-        let given : number_in (OneSession member) after.sessions member ≡ Some its_call.own.session =
-        subst (λ (r : Realm). number_in r after.sessions member ≡ Some its_call.own.session) is_one
-        (tied.tied.named member its_call.own.session named) in
-        named ∙ sym given ∙ ap (λ (b : Bool). if b then Some 0 else None) ((Decides-eqb member member).1 refl)
-
-module _ (boot : Booted) (member : ℕ) (app : Application) (history : List Event) (alone : is_single app ≡ false) where
+module _ (boot : Booted) (member : ℕ) (app : Application) (history : List Event) where
   abbrev about : About
   about = about_one history boot member app
 
@@ -242,7 +209,7 @@ module _ (boot : Booted) (member : ℕ) (app : Application) (history : List Even
       below : AreBelow kernel.slots kernel.tables
       below = below_numbers kernel (numbered boot past kernel at.there)
 
-      found : IsTaken (λ slot_at taken. Coming boot member kernel.slots slot_at kernel.tables taken) kernel on.next
+      found : IsTaken (λ slot_at taken. Coming boot member taken) kernel on.next
           (record { cpu = cpu; regs = regs.a; steps = steps }) slot now
       found = early_call boot member kernel on.next cpu steps slot regs reads now below early.lower is inside there comes
 
@@ -250,15 +217,15 @@ module _ (boot : Booted) (member : ℕ) (app : Application) (history : List Even
       none_noted none =
           not_both event (sym none ∙ ap (λ (c : PendingCall). own.event_of member c) found.call_is ∙ noted)
 
-      by_coming : Coming boot member kernel.slots slot kernel.tables found.taken
+      by_coming : Coming boot member found.taken
           → (now.kind ≡ kind.Open) × (now.uuid ≡ Some (uuid_of app)) × (now.session ≡ member)
           × (member < on.next.tables.next_session)
       by_coming (Another none lower) = none_noted none
-      by_coming (Shares none more its) = none_noted none
+      by_coming (ItWaits none more) = none_noted none
       by_coming (ItsOpen o) =
-          let opens : now.kind ≡ kind.Open = ap (λ (c : PendingCall). c.kind) (sym found.call_is) ∙ o.opens.kind in
+          let opens : now.kind ≡ kind.Open = ap (λ (c : PendingCall). c.kind) (sym found.call_is) ∙ o.opens in
           let given : member < on.next.tables.next_session =
-          subst (λ (k : Kernel). member < k.tables.next_session) found.gives o.is_now in
+          subst (λ (k : Kernel). member < k.tables.next_session) found.gives o.given in
           let uuid : now.uuid ≡ Some (uuid_of o.of) = ap (λ (c : PendingCall). c.uuid) (sym found.call_is) ∙ o.uuid in
           let told : (own.event_noted member kernel on.next (own_part notes) happened).uuid ≡ Some (uuid_of o.of) =
           ap (λ (h : Event). (own.event_noted member kernel on.next (own_part notes) h).uuid) is_entry
@@ -273,7 +240,7 @@ module _ (boot : Booted) (member : ℕ) (app : Application) (history : List Even
           ∙ uuid_known past events kernel happened notes g known on given) in (
             opens,
             uuid ∙ ap (λ (a : Application). Some (uuid_of a)) same,
-            ap (λ (c : PendingCall). c.session) (sym found.call_is) ∙ o.opens.of_session,
+            ap (λ (c : PendingCall). c.session) (sym found.call_is) ∙ o.of_session,
             given,
           )
 
@@ -378,29 +345,19 @@ module _ (boot : Booted) (member : ℕ) (app : Application) (history : List Even
       → KnownHere past (happened ∷ events) kernel notes g → (on : IsOn boot about.most past kernel happened events)
       → (after : Notes) → AreTied about on.next.slots on.next.tables after last
       → own_part after ≡ own.event_noted member kernel on.next (own_part notes) happened
-      → (now : own.Notes) → own_part after ≡ now → EarlyNext boot member about.most kernel on.next now
+      → (now : own.Notes) → own_part after ≡ now → EarlyNext member on.next now
       → IsEarly member on.next after ⊎ IsOpened member on.next after
   next_so past events kernel happened notes g last known on after tied noted_so now same (StillEarly nothing lower) =
       inl (record { nothing = same ∙ nothing; lower = lower })
-  next_so past events kernel happened notes g last known on after tied noted_so now same
-      (NowNameless of higher nothing of_boot shares has) =
+  next_so past events kernel happened notes g last known on after tied noted_so now same (NowNameless higher nothing) =
       let none : None ≡ Some app = ap (λ (n : own.Notes). option_and_then (app_of boot) n.uuid)
       (sym nothing ∙ sym same ∙ noted_so)
       ∙ uuid_known past events kernel happened notes g known on higher in
       absurd cc
-  next_so past events kernel happened notes g last known on after tied noted_so now same
-      (NowShared of higher of_boot uuid shares has) =
-      let of_app : option_and_then (app_of boot) now.uuid ≡ Some app =
-      ap (λ (n : own.Notes). option_and_then (app_of boot) n.uuid) (sym same ∙ noted_so)
-      ∙ uuid_known past events kernel happened notes g known on higher in
-      let is : of ≡ app = own_histories.named_app boot now of app uuid of_boot of_app in
-      let no : true ≡ false = sym shares ∙ ap is_single is ∙ alone in absurd cc
-  next_so past events kernel happened notes g last known on after tied noted_so now same
-      (NowOpen of is_next of_boot uuid none_shared along has) =
+  next_so past events kernel happened notes g last known on after tied noted_so now same (NowOpen given its) =
       inr (record {
-        named = named_behind about member on.next after now last (about_next boot of about.most kernel) along.then
-            (uuid_of of) refl same (sym is_next) along.tied has tied;
-        given = subst (λ n. n < on.next.tables.next_session) (sym is_next) along.tied.given.session_given;
+        named = named_behind about member on.next after last refl (subst (IsOpening member on.next) (sym same) its) tied;
+        given = given;
       })
 
   early_on : (past events : List Event) (kernel : Kernel) (happened : Event) (notes : Notes) (g : Group)
@@ -416,7 +373,7 @@ module _ (boot : Booted) (member : ℕ) (app : Application) (history : List Even
       (own.event_noted member kernel on.next own.no_notes happened)
       (happened_same boot member kernel on.next notes happened
       ∙ ap (λ (n : own.Notes). own.event_noted member kernel on.next n happened) early.nothing)
-      (early_next boot member about.most kernel on.next happened
+      (early_next boot member kernel on.next happened
       (below_numbers kernel (numbered boot past kernel at.there)) early.lower on.comes)
 
   stays_so : (past events : List Event) (kernel : Kernel) (happened : Event) (notes : Notes) (g : Group)
@@ -476,7 +433,7 @@ one_answered boot history member app s =
     let of_boot : app_of boot (uuid_of app) ≡ Some app =
     option_and_then_some (app_of boot) (own.noted boot history member).uuid app s.of_app
     (λ uuid there is. ap (λ (u : List ℕ). app_of boot u) (app_named boot uuid app is) ∙ is) in
-    let runs = tied_on boot about (Known boot member app) (one_course boot member app history s.shares_none)
+    let runs = tied_on boot about (Known boot member app) (one_course boot member app history)
     (record { of_boot = of_boot; shares = s.shares_none }) refl [] (first_kernel boot) no_notes (nobody_there boot.key) history
     (stays_in_order.first boot.key)
     (record {

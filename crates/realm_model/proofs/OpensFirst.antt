@@ -16,7 +16,6 @@ use Rattle.kernel_model.specs.Kernel.{ACancel, AnInvoke, AnOpen, Asks, CallPhase
 use Rattle.kernel_model.specs.Kernel.{PendingCall, Runs, SettledCall, Tables, Untold, Waits}
 use Rattle.kernel_model.proofs.SoundNumbers.{numbered as in_numbers, numbers_rise}
 use Rattle.own_model.proofs.BelowNumbers.{below_numbers}
-use Rattle.own_model.proofs.EarlyEvents.{EarlyNext, NowNameless, NowOpen, NowShared, StillEarly, early_next}
 use Rattle.own_model.proofs.WholeHistories.{IsAt, IsOn, on_from}
 use Rattle.own_model.specs.Own as own
 use Rattle.own_model.specs.declared.own_event.OwnEvent.{OwnEvent}
@@ -31,6 +30,7 @@ use Rattle.realm_model.specs.Reading.{Comes, Logged, Notes, RealmEvent, TurnedAw
 use Rattle.realm_model.specs.Reading.{settled_event, settled_event_in, with_event}
 use Rattle.realm_model.specs.Forgetting.{own_event_of, own_part}
 use Rattle.realm_model.proofs.Along.{goes_from}
+use Rattle.realm_model.proofs.EarlyEvents.{EarlyNext, NowNameless, NowOpen, StillEarly, early_next}
 use Rattle.realm_model.proofs.NotesStay.{IsNoOpening, behind_event}
 use Rattle.realm_model.proofs.OneAnswered.{IsEarly, never_opens, same_noted}
 use Rattle.realm_model.proofs.SessionEvents.{log_stays}
@@ -180,17 +180,15 @@ module _ (boot : Booted) (member most : ℕ) where
       by_next (own.event_noted member kernel on.next own.no_notes happened)
       (happened_same boot member kernel on.next notes happened
       ∙ ap (λ (n : own.Notes). own.event_noted member kernel on.next n happened) early.nothing)
-      (early_next boot member most kernel on.next happened
+      (early_next boot member kernel on.next happened
       (below_numbers kernel (in_numbers boot past kernel at.there)) early.lower on.comes)
     where
       by_next : (now : own.Notes) → own_part (event_noted boot (OneSession member) kernel on.next notes happened) ≡ now
-          → EarlyNext boot member most kernel on.next now
+          → EarlyNext member on.next now
           → Stands member on.next (event_noted boot (OneSession member) kernel on.next notes happened)
       by_next now same (StillEarly nothing lower) = inl (record { nothing = same ∙ nothing; lower = lower })
-      by_next now same (NowNameless of higher nothing of_boot shares has) = inr higher
-      by_next now same (NowShared of higher of_boot uuid shares has) = inr higher
-      by_next now same (NowOpen of is_next of_boot uuid none_shared along has) =
-          inr (subst (λ n. n < on.next.tables.next_session) (sym is_next) along.tied.given.session_given)
+      by_next now same (NowNameless higher nothing) = inr higher
+      by_next now same (NowOpen given its) = inr given
 
   first_so : (past events : List Event) (kernel : Kernel) (happened : Event) (notes : Notes)
       → (on : IsOn boot most past kernel happened events) → Stands member kernel notes → OpensFirst (events_noted notes.log)
