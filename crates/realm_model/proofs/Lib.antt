@@ -40,6 +40,7 @@ pub mod OneAnswered
 pub mod Answered
 pub mod TwoWorlds
 pub mod SessionEvents
+pub mod Beginnings
 pub mod SessionReplies
 pub mod OpensFirst
 pub mod AloneAnswered

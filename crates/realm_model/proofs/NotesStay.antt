@@ -1,6 +1,6 @@
 -- What is noted of the numbers of a realm's sessions changes with its opens alone.
 use Rattle.std.proofs.Common.{◌≡◌, ℕ, List, [], ◌∷◌, ◌++◌, Option, Some, None, refl, subst, sym}
-use Rattle.std.specs.Prelude.{◌==◌, ◌&&◌, not, slice_get}
+use Rattle.std.specs.Prelude.{◌==◌, ◌&&◌, is_some, not, slice_get}
 use Rattle.std.specs.List.{list_any}
 use Rattle.std.specs.Option.{option_map_or}
 use Rattle.base.specs.NumberMap.{NumberMap, get}
@@ -26,8 +26,10 @@ use Rattle.own_model.proofs.EventKinds.{EntryKind, HasAnswer, IsNewCall, IsResum
 use Rattle.own_model.specs.Own.{Entering, Numbering, is_limit, is_of_client, reply_of, slot_kept, wake_kept, wake_of, with_wake}
 use Rattle.group_model.proofs.NewEntries.{new_call_taken}
 use Rattle.group_model.proofs.NewForms.{NewForms}
+use Rattle.group_model.proofs.RepliesTold.{has_reply}
 use Rattle.group_model.specs.declared.group_event.GroupEvent.{GroupEvent}
 use Rattle.group_model.specs.declared.group_event.GroupEvent.TheVariants.{Back, Open, Out, Room, Seen}
+use Rattle.group_model.specs.declared.group_reply.GroupReply.{GroupReply}
 use Rattle.group_model.specs.Group.{plain}
 use Rattle.own_model.specs.Own.{input_of}
 use Rattle.own_model.specs.declared.own_reply.OwnReply.TheVariants as reply
@@ -86,33 +88,42 @@ abbrev pub IsNoOpening : RealmEvent → Type 0
 IsNoOpening (Comes (Open input login limited area)) = ⊥
 IsNoOpening _ = Unit {0}
 
+-- it has a reply just where a call goes out; and a call that was turned away is told so
+abbrev pub IsToldAs : RealmEvent → Option GroupReply → Type 0
+IsToldAs (Comes came) told = is_some told ≡ has_reply came
+IsToldAs TurnedAway told = told ≡ Some (plain reply.Limited)
+
+abbrev pub IsTold : Logged → Type 0
+IsTold logged = IsToldAs logged.0 logged.1
+
 -- whatever is said of the sessions, their next number, that of the calls, and the log, where no entry unsays it but an open's
 module _ (Q : NumberMap ℕ → ℕ → ℕ → List Logged → Type 0)
     (grows : (sessions : NumberMap ℕ) (next_session entered : ℕ) (log : List Logged) (last : Logged) → IsNoOpening last.0
-    → Q sessions next_session entered log → Q sessions next_session entered (log ++ last ∷ [])) where
+    → IsTold last → Q sessions next_session entered log → Q sessions next_session entered (log ++ last ∷ [])) where
   abbrev pub Holds : Notes → Type 0
   Holds notes = Q notes.sessions notes.next_session notes.numbering.entered notes.log
 
-  more : (notes : Notes) (last : Logged) → IsNoOpening last.0 → Holds notes
+  more : (notes : Notes) (last : Logged) → IsNoOpening last.0 → IsTold last → Holds notes
       → Q notes.sessions notes.next_session notes.numbering.entered (notes.log ++ last ∷ [])
-  more notes last other holds = grows notes.sessions notes.next_session notes.numbering.entered notes.log last other holds
+  more notes last other told holds =
+      grows notes.sessions notes.next_session notes.numbering.entered notes.log last other told holds
 
   back_so : (notes : Notes) (number : ℕ) (leaving : Leaving) (came : Given) → Holds notes
       → Holds (back_noted notes number leaving came)
   back_so notes number Interrupted came holds = holds
-  back_so notes number WantsBuffer came holds = more notes (Comes (Back number (input_of came)), None) tt holds
-  back_so notes number (Requests place request) came holds = more notes (Comes (Back number (input_of came)), None) tt holds
-  back_so notes number (FreesBuffer buffer) came holds = more notes (Comes (Back number (input_of came)), None) tt holds
-  back_so notes number (Finishes result params) came holds = more notes (Comes (Back number (input_of came)), None) tt holds
+  back_so notes number WantsBuffer came holds = more notes (Comes (Back number (input_of came)), None) tt refl holds
+  back_so notes number (Requests place request) came holds = more notes (Comes (Back number (input_of came)), None) tt refl holds
+  back_so notes number (FreesBuffer buffer) came holds = more notes (Comes (Back number (input_of came)), None) tt refl holds
+  back_so notes number (Finishes result params) came holds = more notes (Comes (Back number (input_of came)), None) tt refl holds
 
   resume_so : (w : Watched) (slot : ℕ) (before now : PendingCall) (notes : Notes) (number : ℕ) → Holds notes
       → Holds (resume_noted w slot before now notes number)
   resume_so w slot before now notes number holds =
       let seen : Holds (seen_noted notes number before now) =
-      if-both Holds (now.seen && not before.seen) _ notes (more notes (Comes (Seen number before.steps), None) tt holds) holds in
+      if-both Holds (now.seen && not before.seen) _ notes (more notes (Comes (Seen number before.steps), None) tt refl holds) holds in
       let found : Holds (room_noted w (seen_noted notes number before now) number before) =
       map_or-both Holds _ (room_of w.realm w.boot w.entering.kernel.tables before) (seen_noted notes number before now)
-      (λ enough. more (seen_noted notes number before now) (Comes (Room number enough), None) tt seen) seen in
+      (λ enough. more (seen_noted notes number before now) (Comes (Room number enough), None) tt refl seen) seen in
       map_or-both Holds _ (reading (given_to w.entering.visit.regs slot before) w.entering.reads) _
       (λ came. back_so _ number (leaving_of slot before) came found) found
 
@@ -143,7 +154,7 @@ module _ (Q : NumberMap ℕ → ℕ → ℕ → List Logged → Type 0)
       let told : Notes = option_map_or (with_reply number notes opened) (reply_of woken call.phase leaving) notes in
       subst (λ m. Q told.sessions told.next_session m told.log) (sym (entered_stays notes.numbering slot woken leaving))
       (map_or-both (λ (n : Notes). Q n.sessions n.next_session notes.numbering.entered n.log)
-      (with_reply number notes opened) (reply_of woken call.phase leaving) notes (λ one. more notes (Comes (Out number), Some (record { reply = one; opened = opened })) tt holds) holds)
+      (with_reply number notes opened) (reply_of woken call.phase leaving) notes (λ one. more notes (Comes (Out number), Some (record { reply = one; opened = opened })) tt refl holds) holds)
 
   out_so : (realm : Realm) (kernel : Kernel) (notes : Notes) (cpu : ℕ) (processor : Option Processor) → Holds notes
       → Holds (out_noted realm kernel notes cpu processor)
@@ -151,7 +162,7 @@ module _ (Q : NumberMap ℕ → ℕ → ℕ → List Logged → Type 0)
   out_so realm kernel notes cpu (Some Outside) holds = holds
   out_so realm kernel notes cpu (Some (Inside regs steps (Fixed answer))) holds =
       if-both Holds (list_any (λ away. away == cpu) notes.turned_away) _ notes
-      (more notes (TurnedAway, Some (plain reply.Limited)) tt holds) holds
+      (more notes (TurnedAway, Some (plain reply.Limited)) tt refl holds) holds
   out_so realm kernel notes cpu (Some (Inside regs steps (InSlot slot))) holds =
       map_or-both Holds _ (progress_in_slot kernel steps slot) notes
       (λ (progress : Progress). map_or-both Holds (exit_noted realm notes slot progress.call)

@@ -288,7 +288,7 @@ module _ (boot : Booted) (member : ℕ) (app : Application) (history : List Even
       ≤ (event_noted boot (OneSession member) kernel on.next notes happened).numbering.entered
   few_so past events kernel happened notes few on =
       behind_event (λ sessions next_session entered log. next_session ≤ entered)
-      (λ sessions next_session entered log last other holds. holds) boot (OneSession member) kernel on.next happened
+      (λ sessions next_session entered log last other told holds. holds) boot (OneSession member) kernel on.next happened
       notes few
       (λ cpu steps slot regs reads now came is_entry is inside there noted. by_kind slot now came now.kind refl) on.comes
     where
@@ -318,7 +318,7 @@ module _ (boot : Booted) (member : ℕ) (app : Application) (history : List Even
       → get (event_noted boot (OneSession member) kernel on.next notes happened).sessions member ≡ Some 0
   named_so past events kernel happened notes opened on =
       behind_event (λ sessions next_session entered log. get sessions member ≡ Some 0)
-      (λ sessions next_session entered log last other holds. holds) boot (OneSession member) kernel on.next
+      (λ sessions next_session entered log last other told holds. holds) boot (OneSession member) kernel on.next
       happened notes opened.named
       (λ cpu steps slot regs reads now came is_entry is inside there noted.
       by_kind now came now.kind refl

@@ -195,7 +195,7 @@ module _ (boot : Booted) (member most : ℕ) where
       → OpensFirst (events_noted (event_noted boot (OneSession member) kernel on.next notes happened).log)
   first_so past events kernel happened notes on stands first =
       behind_event (λ sessions next_session entered log. OpensFirst (events_noted log))
-      (λ sessions next_session entered log last other holds. log_grows log last other holds) boot (OneSession member) kernel
+      (λ sessions next_session entered log last other told holds. log_grows log last other holds) boot (OneSession member) kernel
       on.next happened notes first
       (λ cpu steps slot regs reads now came is_entry is inside there noted.
       subst (λ (log : List Logged). OpensFirst (events_noted log))

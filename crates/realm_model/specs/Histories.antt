@@ -1,6 +1,6 @@
 -- Isolation of realms: whatever else happens in a legal history, the machine of a realm, which has the realm's events alone,
 -- answers as the realm was answered. This project's own.
-use Rattle.std.specs.Prelude.{◌≡◌, ℕ, ◌*◌, ◌≤◌, List, Some, slice_get}
+use Rattle.std.specs.Prelude.{◌≡◌, ℕ, ◌*◌, ◌≤◌, List, Some, filter_map, map, slice_get, take}
 use Rattle.event_journal.specs.declared.event.Event.{Event}
 use Rattle.event_journal.specs.declared.event.Event.TheVariants.{Entry}
 use Rattle.ns_ram.specs.declared.read.Read.{Read}
@@ -15,8 +15,9 @@ use Rattle.group_model.specs.InOrder.{IsInOrder}
 use Rattle.group_model.specs.Isolation.{IsGroupOf}
 use Rattle.group_model.specs.Laws.{IsSound}
 use Rattle.group_model.specs.declared.group_event.GroupEvent.{GroupEvent}
+use Rattle.group_model.specs.declared.group_reply.GroupReply.{GroupReply}
 use Rattle.realm_model.specs.Realm.{AllSessions, OneSession, Realm}
-use Rattle.realm_model.specs.Reading.{Notes, event_of, realm_events, realm_replies}
+use Rattle.realm_model.specs.Reading.{Logged, Notes, RealmEvent, event_of, noted, realm_events, realm_replies}
 use Rattle.realm_model.specs.Laws.{About, AreFitting, ComesAs, GoesAlongWith, IsRealm}
 
 -- ---- each event
@@ -66,3 +67,19 @@ SameRealmEventsSameReplies = (boot another : Booted) (history other : List Event
     boot.key ≡ another.key → IsRealmOf boot history realm app → IsRealmOf another other second app →
     realm_events boot history realm ≡ realm_events another other second →
     realm_replies boot history realm ≡ realm_replies another other second
+
+-- what happened first to a realm, and what it was answered to that: by the first entries of what is noted of it
+abbrev pub first_happened : Booted → List Event → Realm → ℕ → List RealmEvent
+first_happened boot history realm count = map (λ (logged : Logged). logged.0) (take count (noted boot history realm).log)
+
+abbrev pub first_answered : Booted → List Event → Realm → ℕ → List GroupReply
+first_answered boot history realm count =
+    filter_map (λ (logged : Logged). logged.1) (take count (noted boot history realm).log)
+
+-- and wherever the same has happened to them, not only in the end: they were answered the same so far
+abbrev pub SameRealmBeginningsSameReplies : Type 0
+SameRealmBeginningsSameReplies =
+    (boot another : Booted) (history other : List Event) (realm second : Realm) (count : ℕ) (app : Application) →
+    boot.key ≡ another.key → IsRealmOf boot history realm app → IsRealmOf another other second app →
+    first_happened boot history realm count ≡ first_happened another other second count →
+    first_answered boot history realm count ≡ first_answered another other second count

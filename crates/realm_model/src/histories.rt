@@ -1,7 +1,7 @@
 //! What is answered to a realm in a whole history.
 ghost use Rattle.group_model.specs.Isolation.{AnsweredAsAGroup};
 ghost use Rattle.own_model.specs.Isolation.{AnsweredAsAlone};
-ghost use Rattle.realm_model.specs.Histories.{AnsweredAsARealm, SameRealmEventsSameReplies};
+ghost use Rattle.realm_model.specs.Histories.{AnsweredAsARealm, SameRealmBeginningsSameReplies, SameRealmEventsSameReplies};
 
 /// The machine of a realm, which has the realm's events alone, answers as the realm was answered, whatever else happens: one
 /// session of an application whose sessions share no instance, and all sessions of one whose sessions share one.
@@ -13,6 +13,12 @@ pub fn realms_are_answered()
 /// histories of any two boots that have the same key.
 pub fn same_realm_events_get_same_replies()
     ensures { SameRealmEventsSameReplies }
+{}
+
+/// And wherever the same has happened to them, not only in the end: they were answered the same so far, calls that found no
+/// thread too.
+pub fn same_realm_beginnings_get_same_replies()
+    ensures { SameRealmBeginningsSameReplies }
 {}
 
 /// What `group_model` says of a group follows from this, in the same words.
