@@ -41,6 +41,7 @@ pub mod Answered
 pub mod TwoWorlds
 pub mod SessionEvents
 pub mod Beginnings
+pub mod KeptSessions
 pub mod SessionReplies
 pub mod OpensFirst
 pub mod AloneAnswered

@@ -1,12 +1,13 @@
 -- Isolation of realms: whatever else happens in a legal history, the machine of a realm, which has the realm's events alone,
 -- answers as the realm was answered. This project's own.
-use Rattle.std.specs.Prelude.{◌≡◌, ℕ, ◌*◌, ◌≤◌, List, Some, filter_map, map, slice_get, take}
+use Rattle.std.specs.Prelude.{◌≡◌, ℕ, ◌*◌, ◌≤◌, ◌++◌, IsSome, List, Some, filter_map, map, slice_get, take}
 use Rattle.event_journal.specs.declared.event.Event.{Event}
 use Rattle.event_journal.specs.declared.event.Event.TheVariants.{Entry}
 use Rattle.ns_ram.specs.declared.read.Read.{Read}
 use Rattle.smc_abi.specs.declared.regs.Regs.{Regs}
 use Rattle.kernel_model.specs.Application.{Application, Booted}
 use Rattle.kernel_model.specs.Argument.{IsNew}
+use Rattle.kernel_model.specs.History.{IsLegal, kernel_after}
 use Rattle.kernel_model.specs.Kernel.{Active, InSlot, Inside, Kernel, PendingCall}
 use Rattle.kernel_model.specs.Sound.{AreGranted}
 use Rattle.own_model.specs.Isolation.{IsSessionOf, steps_in}
@@ -14,10 +15,11 @@ use Rattle.group_model.specs.Group.{Group, group_machine_replies}
 use Rattle.group_model.specs.InOrder.{IsInOrder}
 use Rattle.group_model.specs.Isolation.{IsGroupOf}
 use Rattle.group_model.specs.Laws.{IsSound}
+use Rattle.group_model.specs.OneLaw.{IsKept}
 use Rattle.group_model.specs.declared.group_event.GroupEvent.{GroupEvent}
 use Rattle.group_model.specs.declared.group_reply.GroupReply.{GroupReply}
 use Rattle.realm_model.specs.Realm.{AllSessions, OneSession, Realm}
-use Rattle.realm_model.specs.Reading.{Logged, Notes, RealmEvent, event_of, noted, realm_events, realm_replies}
+use Rattle.realm_model.specs.Reading.{Logged, Notes, RealmEvent, event_of, noted, number_of, realm_events, realm_replies}
 use Rattle.realm_model.specs.Laws.{About, AreFitting, ComesAs, GoesAlongWith, IsRealm}
 
 -- ---- each event
@@ -83,3 +85,26 @@ SameRealmBeginningsSameReplies =
     boot.key ≡ another.key → IsRealmOf boot history realm app → IsRealmOf another other second app →
     first_happened boot history realm count ≡ first_happened another other second count →
     first_answered boot history realm count ≡ first_answered another other second count
+
+-- ---- the sessions that this is about
+
+-- the session is a member of the realm, which has a number for it
+abbrev pub IsMember : Booted → List Event → Realm → ℕ → Type 0
+IsMember boot history realm session = IsSome (number_of realm (noted boot history realm) session)
+
+-- a realm of this application that the session is a member of
+pub record HasRealm (boot : Booted) (history : List Event) (session : ℕ) (app : Application) : Type 0 where
+  pub realm : Realm
+  pub is : IsRealmOf boot history realm app
+  pub member : IsMember boot history realm session
+
+-- after a legal history each session that the kernel keeps is a member of one, and whatever comes then, it keeps its number there
+pub record KeptSessionsHaveRealms : Type 0 where
+  pub known : (boot : Booted) (history : List Event) (kernel : Kernel) (session : ℕ) (app : Application) →
+      IsLegal boot history → kernel_after boot history ≡ Some kernel → IsKept boot kernel session app →
+      HasRealm boot history session app
+  pub stays : (boot : Booted) (history more : List Event) (session number : ℕ) (realm : Realm) (app : Application) →
+      IsLegal boot (history ++ more) → IsRealmOf boot history realm app →
+      number_of realm (noted boot history realm) session ≡ Some number →
+      IsRealmOf boot (history ++ more) realm app
+      × (number_of realm (noted boot (history ++ more) realm) session ≡ Some number)

@@ -1,7 +1,7 @@
 //! What is answered to a realm in a whole history.
 ghost use Rattle.group_model.specs.Isolation.{AnsweredAsAGroup};
 ghost use Rattle.own_model.specs.Isolation.{AnsweredAsAlone};
-ghost use Rattle.realm_model.specs.Histories.{AnsweredAsARealm, SameRealmBeginningsSameReplies, SameRealmEventsSameReplies};
+ghost use Rattle.realm_model.specs.Histories.{AnsweredAsARealm, KeptSessionsHaveRealms, SameRealmBeginningsSameReplies, SameRealmEventsSameReplies};
 
 /// The machine of a realm, which has the realm's events alone, answers as the realm was answered, whatever else happens: one
 /// session of an application whose sessions share no instance, and all sessions of one whose sessions share one.
@@ -19,6 +19,11 @@ pub fn same_realm_events_get_same_replies()
 /// thread too.
 pub fn same_realm_beginnings_get_same_replies()
     ensures { SameRealmBeginningsSameReplies }
+{}
+
+/// Each session that the kernel keeps after a legal history is a member of such a realm, and keeps its number there.
+pub fn kept_sessions_have_realms()
+    ensures { KeptSessionsHaveRealms }
 {}
 
 /// What `group_model` says of a group follows from this, in the same words.

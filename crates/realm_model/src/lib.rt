@@ -24,7 +24,8 @@
 //!   (`realms_are_answered`); so two realms of one application to which the same has happened were answered the same
 //!   (`same_realm_events_get_same_replies`), in the end and at each beginning
 //!   (`same_realm_beginnings_get_same_replies`), and the laws of a group and of a session follow, in their own words
-//!   (`groups_are_answered_so`, `sessions_are_answered_so`).
+//!   (`groups_are_answered_so`, `sessions_are_answered_so`). Each session that the kernel keeps is a member of a realm, and
+//!   keeps its number there (`kept_sessions_have_realms`).
 #![tactic(auto)]
 
 mod histories;
@@ -32,8 +33,9 @@ mod realms;
 mod ties;
 
 pub use histories::{
-    groups_are_answered_so, realms_are_answered, same_realm_beginnings_get_same_replies,
-    same_realm_events_get_same_replies, sessions_are_answered_so,
+    groups_are_answered_so, kept_sessions_have_realms, realms_are_answered,
+    same_realm_beginnings_get_same_replies, same_realm_events_get_same_replies,
+    sessions_are_answered_so,
 };
 pub use realms::{
     groups_are_realms, session_events_are_realms, sessions_are_realms, worked_examples,
