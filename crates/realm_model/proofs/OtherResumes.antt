@@ -253,10 +253,10 @@ one_of P Q test (first ∷ xs) all both is =
 -- what the call of a slot waits for
 awaited_of : (slots : List ThreadSlot) (slot : ℕ) (call : PendingCall) (params : CopiedParams)
     → call_at slots slot ≡ Some call → call.phase ≡ Waits params
-    → awaited (sound.call_at slots slot) ≡ Some (call.instance, call.uuid)
+    → awaited (sound.unmarked_at slots slot) ≡ Some (call.instance, call.uuid)
 awaited_of slots slot call params there waiting =
     option_and_then_some call_in (slice_get slots slot) call there
-    (λ held is in_it. ap (λ (o : Option ThreadSlot). awaited (option_and_then sound.call_in o)) is ∙ by_held held in_it)
+    (λ held is in_it. ap (λ (o : Option ThreadSlot). awaited (option_and_then sound.unmarked_in o)) is ∙ by_held held in_it)
   where
     waits_so : (other : PendingCall) → other ≡ call → awaited (Some (sound.unmarked other)) ≡ Some (call.instance, call.uuid)
     waits_so other same =
@@ -264,7 +264,7 @@ awaited_of slots slot call params there waiting =
         ∙ ap (λ (p : CallPhase). awaited (Some (sound.unmarked (record call { phase = p })))) waiting
 
     by_held : (held : ThreadSlot) → call_in held ≡ Some call
-        → awaited (sound.call_in held) ≡ Some (call.instance, call.uuid)
+        → awaited (sound.unmarked_in held) ≡ Some (call.instance, call.uuid)
     by_held Free in_it = absurd cc
     by_held (Active cpu other) in_it = let same : other ≡ call = cc in waits_so other same
     by_held (Suspended client other) in_it = let same : other ≡ call = cc in waits_so other same
@@ -272,18 +272,18 @@ awaited_of slots slot call params there waiting =
 -- a call that waits and isn't the realm's is of another application
 application_apart : (members : Members) (names : Names) (kernel : Kernel) (g : Group) (slot : ℕ) (call : PendingCall)
     (params : CopiedParams) (uuid : List ℕ) → Tied members names kernel.slots kernel.tables g
-    → AreWaiters (sound.call_at kernel.slots) kernel.tables.waiters → call_at kernel.slots slot ≡ Some call
+    → AreWaiters (sound.unmarked_at kernel.slots) kernel.tables.waiters → call_at kernel.slots slot ≡ Some call
     → get names.instances call.instance ≡ None → call.phase ≡ Waits params → call.uuid ≡ Some uuid
     → HasAll members.realm → uuid ≡ uuid_of members.app → ⊥
 application_apart members names kernel g slot call params uuid tied waiters there none waiting has all same =
     let waits_for = awaited_of kernel.slots slot call params there waiting in
     let its = one_of (λ (w : Waiter). IsOfRealm members names.instances w.instance w.uuid)
-    (IsWaiter (sound.call_at kernel.slots)) (λ (w : Waiter). w.slot == slot) kernel.tables.waiters tied.waiters.of_app
+    (IsWaiter (sound.unmarked_at kernel.slots)) (λ (w : Waiter). w.slot == slot) kernel.tables.waiters tied.waiters.of_app
     waiters.each
     (waiters.all slot (subst (λ (o : Option Awaited). IsSome o) (sym waits_for) refl)) in
     let slot_is : its.one.slot ≡ slot = (Decides-eqb its.one.slot slot).0 its.passes in
     let both : Some (its.one.instance, Some its.one.uuid) ≡ Some (call.instance, call.uuid) =
-    sym its.too ∙ ap (λ (n : ℕ). awaited (sound.call_at kernel.slots n)) slot_is ∙ waits_for in
+    sym its.too ∙ ap (λ (n : ℕ). awaited (sound.unmarked_at kernel.slots n)) slot_is ∙ waits_for in
     let instance_is : its.one.instance ≡ call.instance =
     ap (λ (o : Option Awaited). option_map_or (λ (a : Awaited). a.0) o call.instance) both in
     let uuid_is : Some its.one.uuid ≡ call.uuid =

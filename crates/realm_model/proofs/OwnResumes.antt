@@ -5,7 +5,6 @@ use Rattle.std.specs.Prelude.{All, ◌==◌, ◌||◌, IsSome, if◌then◌else�
 use Rattle.std.specs.Option.{option_map, option_map_or, option_and_then}
 use Rattle.std.proofs.lemmas.Bool.Decides.{Decides-eqb}
 use Rattle.std.proofs.lemmas.List.Elements.{All-head, All-tail}
-use Rattle.std.proofs.lemmas.Option.{option_and_then_some}
 use Rattle.base.specs.NumberMap.{NumberMap, get, insert}
 use Rattle.base.proofs.MapLemmas.{All-get}
 use Rattle.event_journal.specs.declared.event.Event.TheVariants.{Entry}
@@ -20,7 +19,7 @@ use Rattle.kernel_model.specs.Application.{Booted, uuid_of}
 use Rattle.kernel_model.specs.Argument.{client_in, thread_in}
 use Rattle.kernel_model.specs.Begin.{has_pages_for}
 use Rattle.kernel_model.specs.Given.{Given, Nothing, given_to}
-use Rattle.kernel_model.specs.Kernel.{Active, Asks, CallPhase, Ends, Free, InSlot, Inside, Instance, Kernel, PendingCall}
+use Rattle.kernel_model.specs.Kernel.{Active, Asks, CallPhase, Ends, InSlot, Inside, Instance, Kernel, PendingCall}
 use Rattle.kernel_model.specs.Kernel.{Processor, Progress, Runs, Suspended, ThreadSlot, Visit, Waits}
 use Rattle.kernel_model.specs.Leaving.{FreesBuffer, Finishes, Interrupted, Leaving, Requests, WantsBuffer, leaving_in}
 use Rattle.kernel_model.specs.Leaving.{leaving_of}
@@ -31,6 +30,7 @@ use Rattle.kernel_model.specs.SoundCalls.{is_told}
 use Rattle.kernel_model.specs.SoundWaiters.{Awaited, AreWaiters, IsWaiter, awaited}
 use Rattle.kernel_model.proofs.EntryLaws.{resumes_call}
 use Rattle.kernel_model.proofs.Parts.{option_map_some, reading-mapped, set_found}
+use Rattle.own_model.proofs.BelowNumbers.{unmarked_there}
 use Rattle.own_model.proofs.FixedAnswers.{entered}
 use Rattle.own_model.proofs.OtherResumes.{visitor_there}
 use Rattle.own_model.specs.Own.{input_of}
@@ -140,21 +140,6 @@ nothing_kept : (p : Place) (at : ℕ) (found : Option Instance)
 nothing_kept p at None none = tt
 nothing_kept p at (Some instance) none = absurd (none instance refl)
 
--- a call in a slot, without its mark
-unmarked_in : (held : ThreadSlot) (call : PendingCall) → call_in held ≡ Some call
-    → sound.call_in held ≡ Some (sound.unmarked call)
-unmarked_in Free call e = absurd cc
-unmarked_in (Active cpu other) call e =
-    let same : other ≡ call = same_call other call e in ap (λ (c : PendingCall). Some (sound.unmarked c)) same
-unmarked_in (Suspended client other) call e =
-    let same : other ≡ call = same_call other call e in ap (λ (c : PendingCall). Some (sound.unmarked c)) same
-
-unmarked_there : (slots : List ThreadSlot) (slot : ℕ) (call : PendingCall) → call_at slots slot ≡ Some call
-    → sound.call_at slots slot ≡ Some (sound.unmarked call)
-unmarked_there slots slot call found =
-    option_and_then_some call_in (slice_get slots slot) call found
-    (λ held is in_it. ap (λ (o : Option ThreadSlot). option_and_then sound.call_in o) is ∙ unmarked_in held call in_it)
-
 -- no other instance with a name is kept: one session has one alone, and all sessions of an application share one
 alone_in : (realm : Realm) (instances in_slots : NumberMap ℕ) (kept : NumberMap Instance) (number own next_session : ℕ)
     (g : Group) → AsRealm realm next_session instances g → get instances number ≡ Some own
@@ -189,12 +174,12 @@ returns_so boot p call own shares key fitting found h = record {
       ap (λ (s : Session). s.opened) (same_session session its.session (sym there ∙ its.kept)) ∙ its.is_opened;
 }
   where
-    plain : sound.call_at p.kernel.slots p.slot ≡ Some (sound.unmarked call)
+    plain : sound.unmarked_at p.kernel.slots p.slot ≡ Some (sound.unmarked call)
     plain = unmarked_there p.kernel.slots p.slot call found
 
     of_app : (params : CopiedParams) → call.phase ≡ Waits params → call.uuid ≡ Some (uuid_of p.about.members.app)
     of_app params waiting =
-        waiting_of_app p.about.members p.instances (sound.call_at p.kernel.slots) p.slot own.instance p.kernel.tables.waiters
+        waiting_of_app p.about.members p.instances (sound.unmarked_at p.kernel.slots) p.slot own.instance p.kernel.tables.waiters
         (sound.unmarked call) params plain waiting (waiting_named p call own params h waiting) fitting.waiters h.tied.waiters.of_app
 
 -- ---- what is noted

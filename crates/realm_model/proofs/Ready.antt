@@ -6,7 +6,7 @@ use Rattle.kernel_model.specs.Application.{Application, Booted, uuid_of}
 use Rattle.kernel_model.specs.History.{kernel_after}
 use Rattle.kernel_model.specs.Instances.{is_single}
 use Rattle.kernel_model.specs.Kernel.{CallPhase, Kernel, PendingCall, Waits}
-use Rattle.kernel_model.specs.Sound.{call_at}
+use Rattle.kernel_model.specs.Sound.{unmarked_at}
 use Rattle.kernel_model.specs.SoundWaiters.{awaited, awaited_in}
 use Rattle.kernel_model.proofs.SoundCallsJoined.{all_joined}
 use Rattle.kernel_model.proofs.SoundNumbers.{numbered}
@@ -31,13 +31,13 @@ single_of (AllSessions of) app shares all = shares.0
 -- of an application whose sessions share an instance no two are kept or waited for
 awaited_alone : (boot : Booted) (app : Application) (kernel : Kernel) → app_of boot (uuid_of app) ≡ Some app
     → is_single app ≡ true
-    → OneEach boot (call_at kernel.slots) kernel.tables.instances → IsAwaitedAlone app kernel
+    → OneEach boot (unmarked_at kernel.slots) kernel.tables.instances → IsAwaitedAlone app kernel
 awaited_alone boot app kernel of_boot single one_each slot call params there waits_there uuid number instance kept same =
     one_each (uuid_of app) call.instance number
     (ap (λ (o : Option Application). option_map_or is_single o false) of_boot ∙ single)
     (inr (slot, awaited_is)) (inl (instance, kept, same))
   where
-    awaited_is : awaited (call_at kernel.slots slot) ≡ Some (call.instance, Some (uuid_of app))
+    awaited_is : awaited (unmarked_at kernel.slots slot) ≡ Some (call.instance, Some (uuid_of app))
     awaited_is =
         ap (λ (o : Option PendingCall). awaited o) there
         ∙ ap (λ (p : CallPhase). awaited_in p (call.instance, call.uuid)) waits_there

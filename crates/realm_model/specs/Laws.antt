@@ -17,7 +17,7 @@ use Rattle.kernel_model.specs.Kernel.{Active, Fixed, InSlot, Inside, Kernel, Pen
 use Rattle.kernel_model.specs.Kernel.{Waits, first_kernel}
 use Rattle.kernel_model.specs.Leaving.{Interrupted, leaving_of}
 use Rattle.kernel_model.specs.Resume.{call_resumed_by}
-use Rattle.kernel_model.specs.Sound.{call_at}
+use Rattle.kernel_model.specs.Sound.{unmarked_at}
 use Rattle.kernel_model.specs.SoundCalls.{AreJoined}
 use Rattle.kernel_model.specs.SoundWaiters.{AreWaiters}
 use Rattle.ta_params.specs.declared.copied_params.CopiedParams.{CopiedParams}
@@ -114,8 +114,8 @@ IsOne (AllSessions app) = ⊥
 
 -- how the calls of each kernel that a legal history comes to fit their sessions and instances, and those that wait
 pub record AreFitting (members : Members) (kernel : Kernel) : Type 0 where
-  pub joined : AreJoined (call_at kernel.slots) kernel.tables
-  pub waiters : AreWaiters (call_at kernel.slots) kernel.tables.waiters
+  pub joined : AreJoined (unmarked_at kernel.slots) kernel.tables
+  pub waiters : AreWaiters (unmarked_at kernel.slots) kernel.tables.waiters
   pub alone : HasAll members.realm → IsAwaitedAlone members.app kernel
   pub rising : IsRising kernel.tables.sessions
 
@@ -185,7 +185,7 @@ InterruptsKeepTied =
 abbrev pub OtherResumesKeepTied : Type 0
 OtherResumesKeepTied =
     (boot : Booted) (about : About) (kernel next : Kernel) (cpu steps : ℕ) (regs : Regs) (reads : List Read)
-    (call : PendingCall) (notes : Notes) (g : Group) → AreWaiters (call_at kernel.slots) kernel.tables.waiters →
+    (call : PendingCall) (notes : Notes) (g : Group) → AreWaiters (unmarked_at kernel.slots) kernel.tables.waiters →
     call_of (reg regs.a 0) ≡ Resume → call_resumed_by kernel.slots regs.a ≡ Some call →
     get notes.numbering.in_slots (thread_in regs.a) ≡ None →
     GoesAlongWith boot about kernel next (Entry cpu regs steps reads) notes g
