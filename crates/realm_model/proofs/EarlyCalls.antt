@@ -15,12 +15,14 @@ use Rattle.kernel_model.specs.Argument.{IsNew, Opening}
 use Rattle.kernel_model.specs.Codes.{bad_parameters, target_dead}
 use Rattle.kernel_model.specs.Decision.{Taken}
 use Rattle.kernel_model.specs.History.{after_event}
-use Rattle.kernel_model.specs.Instances.{app_of, is_held}
+use Rattle.kernel_model.specs.Instances.{app_of, is_held, is_single}
 use Rattle.kernel_model.specs.Kernel.{Active, InSlot, Inside, Instance, Kernel, PendingCall, ThreadSlot}
 use Rattle.kernel_model.specs.Located.{cookie_of}
 use Rattle.kernel_model.specs.NewCall.{NewCall, cancels, keeps_buffers, named_session, new_call_of, open_waits, opens}
 use Rattle.kernel_model.specs.NewCall.{settles, settles_invoke, settles_open, shared_by}
+use Rattle.kernel_model.specs.SoundCalls.{is_over, is_told}
 use Rattle.kernel_model.proofs.Parts.{if-both}
+use Rattle.kernel_model.proofs.SoundMaps.{if_some}
 use Rattle.own_model.proofs.BelowNumbers.{AreBelow, IsBelow}
 use Rattle.own_model.proofs.Lookups.{app_named}
 use Rattle.own_model.proofs.NewCalls.{OfAllEndings}
@@ -33,21 +35,36 @@ use Rattle.own_model.specs.Own.{event_in, event_of}
 
 -- ---- what comes in
 
+-- the call opens the session, and hasn't ended
+pub record IsItsOpen (session : ℕ) (call : PendingCall) : Type 0 where
+  pub kind : call.kind ≡ kind.Open
+  pub pending : is_over call.phase ≡ false
+  pub untold : is_told call.phase ≡ false
+  pub of_session : call.session ≡ session
+
 -- the open of the session, of this application
 pub record OpensIt (boot : Booted) (session : ℕ) (taken : Taken) : Type 0 where
   pub of : Application
   pub of_boot : app_of boot (uuid_of of) ≡ Some of
   pub uuid : taken.call.uuid ≡ Some (uuid_of of)
-  pub opens : taken.call.kind ≡ kind.Open
-  pub of_session : taken.call.session ≡ session
+  pub opens : IsItsOpen session taken.call
   pub noted : is_some (event_of session taken.call) ≡ true
   pub given : session < taken.tables.next_session
+
+-- the open of the session, of an application whose sessions share an instance, for which it waits
+pub record SharesIt (boot : Booted) (session : ℕ) (taken : Taken) : Type 0 where
+  pub of : Application
+  pub of_boot : app_of boot (uuid_of of) ≡ Some of
+  pub shares : is_single of ≡ true
+  pub uuid : taken.call.uuid ≡ Some (uuid_of of)
+  pub opens : IsItsOpen session taken.call
 
 -- before the open of a session, a new call isn't of it, or is its open, or has it wait for an instance that it shares
 pub data Coming (boot : Booted) (session : ℕ) (taken : Taken) : Type 0 where
   Another : event_of session taken.call ≡ None → taken.tables.next_session ≤ session → Coming boot session taken
   ItsOpen : OpensIt boot session taken → Coming boot session taken
-  ItWaits : event_of session taken.call ≡ None → session < taken.tables.next_session → Coming boot session taken
+  ItWaits : event_of session taken.call ≡ None → session < taken.tables.next_session → SharesIt boot session taken
+      → Coming boot session taken
 
 -- a new call there: what is known of it
 record Early (session : ℕ) (slots : List ThreadSlot) (c : NewCall) : Type 0 where
@@ -101,8 +118,7 @@ begins_one session slots c wanted of copies early is true same =
       of = of;
       of_boot = ap (λ u. app_of c.boot u) (app_named c.boot wanted.uuid of is) ∙ is;
       uuid = refl;
-      opens = refl;
-      of_session = tied_numbers c.tables.next_session session same;
+      opens = record { kind = refl; pending = refl; untold = refl; of_session = tied_numbers c.tables.next_session session same };
       noted = ap (λ b. is_some (event_if (opens c wanted of copies).call b)) same;
       given = next_is_more c.tables.next_session session (tied_numbers c.tables.next_session session same);
     })
@@ -112,21 +128,29 @@ begins_one session slots c wanted of copies early is false other =
 
 waits_one : (session : ℕ) (slots : List ThreadSlot) (c : NewCall) (wanted : Opening) (of : Application)
     (copies : Copies) (kept : ℕ × Instance) → Early session slots c
+    → app_of c.boot wanted.uuid ≡ Some of → shared_by c of ≡ Some kept
     → (test : Bool) → (c.tables.next_session == session) ≡ test
     → Coming c.boot session (open_waits c wanted of copies kept)
-waits_one session slots c wanted of copies kept early true same =
+waits_one session slots c wanted of copies kept early is shared true same =
     ItWaits (ap (λ b. event_if (open_waits c wanted of copies kept).call b) same)
     (next_is_more c.tables.next_session session (tied_numbers c.tables.next_session session same))
-waits_one session slots c wanted of copies kept early false other =
+    (record {
+      of = of;
+      of_boot = ap (λ u. app_of c.boot u) (app_named c.boot wanted.uuid of is) ∙ is;
+      shares = (if_some (is_single of) _ kept shared).0;
+      uuid = refl;
+      opens = record { kind = refl; pending = refl; untold = refl; of_session = tied_numbers c.tables.next_session session same };
+    })
+waits_one session slots c wanted of copies kept early is shared false other =
     Another (ap (λ b. event_if (open_waits c wanted of copies kept).call b) other)
     (next_is_less c.tables.next_session session early.before other)
 
 -- by what is found
 found_one : {A : Type 0} (session : ℕ) (c : NewCall) (other : Taken) (f : A → Taken) (found : Option A)
-    → ((value : A) → Coming c.boot session (f value)) → Coming c.boot session other
+    → ((value : A) → found ≡ Some value → Coming c.boot session (f value)) → Coming c.boot session other
     → Coming c.boot session (option_map_or f found other)
 found_one session c other f None on_found on_other = on_other
-found_one session c other f (Some value) on_found on_other = on_found value
+found_one session c other f (Some value) on_found on_other = on_found value refl
 
 -- each way in which it can end
 endings_early : (session : ℕ) (slots : List ThreadSlot) (c : NewCall) → Early session slots c
@@ -137,9 +161,9 @@ endings_early session slots c early = record {
   opened = λ wanted of copies is.
       let opened = begins_one session slots c wanted of copies early is (c.tables.next_session == session) refl in
       found_one session c (opens c wanted of copies) _ (shared_by c of)
-      (λ kept. if-both (Coming c.boot session) (is_held kept.1)
+      (λ kept shared. if-both (Coming c.boot session) (is_held kept.1)
       (open_waits c wanted of copies kept) (opens c wanted of copies)
-      (waits_one session slots c wanted of copies kept early (c.tables.next_session == session) refl) opened)
+      (waits_one session slots c wanted of copies kept early is shared (c.tables.next_session == session) refl) opened)
       opened;
   dead = λ named is dead. in_another session slots c named (settles_invoke c target_dead) early is refl refl;
   faulty = λ named is alive. in_another session slots c named (settles_invoke c bad_parameters) early is refl refl;

@@ -8,19 +8,23 @@ use Rattle.base.specs.NumberMap.{get}
 use Rattle.base.proofs.MapLemmas.{All-get}
 use Rattle.event_journal.specs.declared.event.Event.{Event}
 use Rattle.event_journal.specs.declared.event.Event.TheVariants.{Entry, Exit}
+use Rattle.job_model.specs.declared.call_kind.CallKind.{CallKind}
 use Rattle.job_model.specs.declared.call_kind.CallKind.TheVariants as kind
 use Rattle.ns_ram.specs.declared.read.Read.{Read}
 use Rattle.session_table.specs.declared.session.Session.{Session}
 use Rattle.smc_abi.specs.declared.answer.Answer.{Answer}
 use Rattle.smc_abi.specs.declared.regs.Regs.{Regs}
-use Rattle.kernel_model.specs.Application.{Booted}
+use Rattle.kernel_model.specs.Application.{Application, Booted, uuid_of}
 use Rattle.kernel_model.specs.Argument.{client_in, thread_in}
 use Rattle.kernel_model.specs.Exit.{Exited, exit, exit_of, goes_out_from, progress_held, progress_in_slot, tables_left}
 use Rattle.kernel_model.specs.Given.{Given, given_to}
 use Rattle.kernel_model.specs.History.{after_event}
-use Rattle.kernel_model.specs.Kernel.{Active, Free, Kernel, PendingCall, Processor, Progress, Suspended, Tables}
-use Rattle.kernel_model.specs.Kernel.{ThreadSlot, Visit}
+use Rattle.kernel_model.specs.Instances.{app_of, is_single}
+use Rattle.kernel_model.specs.Kernel.{Active, Asks, CallPhase, Ends, Free, Kernel, PendingCall, Processor, Progress, Runs, Suspended}
+use Rattle.kernel_model.specs.Kernel.{Tables, ThreadSlot, Visit, Waits}
 use Rattle.kernel_model.specs.Resume.{onward_of, resumed_call}
+use Rattle.kernel_model.specs.Sound.{unmarked, unmarked_in}
+use Rattle.kernel_model.specs.SoundCalls.{is_over, is_told}
 use Rattle.kernel_model.proofs.EntryLaws.{resumes_call}
 use Rattle.kernel_model.proofs.FixedAnswer.{fixed_answers}
 use Rattle.kernel_model.proofs.Parts.{anything, reading-all}
@@ -31,19 +35,23 @@ use Rattle.own_model.proofs.EventKinds.{entry_kind, exit_kind}
 use Rattle.own_model.proofs.FixedAnswers.{entered, left}
 use Rattle.own_model.proofs.Maps.{get-insert-same}
 use Rattle.own_model.proofs.NewEntries.{IsTaken, new_call_noted}
+use Rattle.own_model.proofs.NotedCalls.{noted_is}
 use Rattle.own_model.proofs.OtherExits.{none_noted}
 use Rattle.own_model.proofs.OtherResumes.{resumed_noted}
 use Rattle.own_model.proofs.BelowNumbers.{AreBelow, IsBelow}
 use Rattle.own_model.specs.declared.own_event.OwnEvent.{OwnEvent}
-use Rattle.own_model.specs.Own.{Entering, Notes, entry_noted, event_noted, event_of, fixed_noted, is_limit, no_notes}
-use Rattle.own_model.specs.Own.{numbered, out_noted}
+use Rattle.own_model.specs.declared.own_event.OwnEvent.TheVariants as own_event
+use Rattle.own_model.specs.Own.{Entering, Notes, entry_noted, event_in, event_noted, event_of, fixed_noted, is_limit, no_notes}
+use Rattle.own_model.specs.Own.{numbered, out_noted, uuid_by}
+use Rattle.own_model.specs.Parameters.{params_of}
 use Rattle.own_model.specs.Tied.{call_at, call_in}
-use Rattle.realm_model.proofs.EarlyCalls.{Another, Coming, ItWaits, ItsOpen, early_call}
+use Rattle.realm_model.proofs.EarlyCalls.{Another, Coming, IsItsOpen, ItWaits, ItsOpen, early_call}
+use Rattle.realm_model.proofs.Openings.{IsOpening}
 
 -- ---- what comes next
 
 -- the session's open is in a slot, as its first call
-pub record IsOpening (session : ℕ) (next : Kernel) (now : Notes) : Type 0 where
+pub record IsFirstCall (session : ℕ) (next : Kernel) (now : Notes) : Type 0 where
   pub slot : ℕ
   pub call : PendingCall
   pub in_slot : call_at next.slots slot ≡ Some call
@@ -51,11 +59,14 @@ pub record IsOpening (session : ℕ) (next : Kernel) (now : Notes) : Type 0 wher
   pub of_session : call.session ≡ session
   pub number : get now.numbering.in_slots slot ≡ Some 0
 
--- it is still before the open; or it is with it; or the open waits, for an instance that is shared
-pub data EarlyNext (session : ℕ) (next : Kernel) (now : Notes) : Type 0 where
-  StillEarly : now ≡ no_notes → next.tables.next_session ≤ session → EarlyNext session next now
-  NowOpen : session < next.tables.next_session → IsOpening session next now → EarlyNext session next now
-  NowNameless : session < next.tables.next_session → now ≡ no_notes → EarlyNext session next now
+-- it is still before the open; or it is with it, of this application; or the open waits, for an instance that is shared
+pub data EarlyNext (boot : Booted) (session : ℕ) (next : Kernel) (now : Notes) : Type 0 where
+  StillEarly : now ≡ no_notes → next.tables.next_session ≤ session → EarlyNext boot session next now
+  NowOpen : (of : Application) → session < next.tables.next_session → app_of boot (uuid_of of) ≡ Some of
+      → now.uuid ≡ Some (uuid_of of) → IsOpening session (uuid_of of) next → IsFirstCall session next now
+      → EarlyNext boot session next now
+  NowNameless : (of : Application) → session < next.tables.next_session → app_of boot (uuid_of of) ≡ Some of
+      → is_single of ≡ true → now ≡ no_notes → IsOpening session (uuid_of of) next → EarlyNext boot session next now
 
 -- ---- next numbers
 
@@ -136,36 +147,87 @@ numbered_first : (slot : ℕ) (now : PendingCall) (found : Option OwnEvent) → 
 numbered_first slot now None noted = absurd cc
 numbered_first slot now (Some came) noted = get-insert-same [] slot 0
 
+-- the event of an open brings the UUID of its call
+pub open_uuid : (session : ℕ) (call : PendingCall) (event : OwnEvent) (notes : Notes) → call.kind ≡ kind.Open
+    → event_of session call ≡ Some event → uuid_by event call notes ≡ call.uuid
+open_uuid session call event notes opens noted =
+    in_kind call.kind call.phase opens (noted_is call.session session _ event noted).1
+  where
+    in_kind : (call_kind : CallKind) (phase : CallPhase) → call_kind ≡ kind.Open
+        → event_in (is_some call.area) call.settled call_kind phase ≡ Some event → uuid_by event call notes ≡ call.uuid
+    in_kind kind.Open (Runs job) is e =
+        let same : own_event.Open (params_of job) job.login (is_some call.area) ≡ event = cc in
+        subst (λ (o : OwnEvent). uuid_by o call notes ≡ call.uuid) same refl
+    in_kind kind.Open (Asks job wanted payload) is e = absurd cc
+    in_kind kind.Open (Waits params) is e = absurd cc
+    in_kind kind.Open (Ends result params told wakes) is e = absurd cc
+    in_kind (kind.Invoke func) phase is e = absurd cc
+    in_kind kind.Close phase is e = absurd cc
+    in_kind kind.Settled phase is e = absurd cc
+
+numbered_uuid : (session slot : ℕ) (now : PendingCall) (found : Option OwnEvent) → event_of session now ≡ found
+    → is_some found ≡ true → now.kind ≡ kind.Open
+    → (option_map_or (numbered no_notes slot now) found no_notes).uuid ≡ now.uuid
+numbered_uuid session slot now None is noted opens = absurd cc
+numbered_uuid session slot now (Some came) is noted opens = open_uuid session now came no_notes opens is
+
+-- its open is in a slot
+open_there : (session : ℕ) (next : Kernel) (cpu slot : ℕ) (call now : PendingCall) (uuid : List ℕ) → call ≡ now
+    → IsItsOpen session call → call.uuid ≡ Some uuid → slice_get next.slots slot ≡ Some (Active cpu now)
+    → IsOpening session uuid next
+open_there session next cpu slot call now uuid same opens named there = record {
+  has = record {
+    slot = slot;
+    call = unmarked now;
+    in_slot = ap (λ (o : Option ThreadSlot). option_and_then unmarked_in o) there;
+    opens = ap (λ (c : PendingCall). c.kind) (sym same) ∙ opens.kind;
+    untold = ap (λ (c : PendingCall). is_told c.phase) (sym same) ∙ opens.untold;
+    of_session = ap (λ (c : PendingCall). c.session) (sym same) ∙ opens.of_session;
+    of_app = ap (λ (c : PendingCall). c.uuid) (sym same) ∙ named;
+  };
+  pending = ap (λ (c : PendingCall). is_over c.phase) (sym same) ∙ opens.pending;
+}
+
 call_next : (boot : Booted) (session : ℕ) (kernel next : Kernel) (visit : Visit) (slot : ℕ) (now : PendingCall)
     (notes : Notes) → (found : IsTaken (λ at taken. Coming boot session taken) kernel next visit slot now)
     → notes ≡ option_map_or (numbered no_notes slot now) (event_of session now) no_notes
     → slice_get next.slots slot ≡ Some (Active visit.cpu now)
-    → Coming boot session found.taken → EarlyNext session next notes
+    → Coming boot session found.taken → EarlyNext boot session next notes
 call_next boot session kernel next visit slot now notes found is there (Another none lower) =
     StillEarly (is ∙ ap (λ (o : Option OwnEvent). option_map_or (numbered no_notes slot now) o no_notes)
     (ap (λ (c : PendingCall). event_of session c) (sym found.call_is) ∙ none))
     (subst (λ (k : Kernel). k.tables.next_session ≤ session) found.gives lower)
-call_next boot session kernel next visit slot now notes found is there (ItWaits none more) =
-    NowNameless (subst (λ (k : Kernel). session < k.tables.next_session) found.gives more)
+call_next boot session kernel next visit slot now notes found is there (ItWaits none more its) =
+    NowNameless its.of (subst (λ (k : Kernel). session < k.tables.next_session) found.gives more) its.of_boot its.shares
     (is ∙ ap (λ (o : Option OwnEvent). option_map_or (numbered no_notes slot now) o no_notes)
     (ap (λ (c : PendingCall). event_of session c) (sym found.call_is) ∙ none))
+    (open_there session next visit.cpu slot found.taken.call now (uuid_of its.of) found.call_is its.opens its.uuid there)
 call_next boot session kernel next visit slot now notes found is there (ItsOpen o) =
-    NowOpen (subst (λ (k : Kernel). session < k.tables.next_session) found.gives o.given) (record {
+    NowOpen o.of (subst (λ (k : Kernel). session < k.tables.next_session) found.gives o.given) o.of_boot
+    (ap (λ (n : Notes). n.uuid) is ∙ numbered_uuid session slot now (event_of session now) refl noted opens
+    ∙ ap (λ (c : PendingCall). c.uuid) (sym found.call_is) ∙ o.uuid)
+    (open_there session next visit.cpu slot found.taken.call now (uuid_of o.of) found.call_is o.opens o.uuid there)
+    (record {
       slot = slot;
       call = now;
       in_slot = ap (λ (held : Option ThreadSlot). option_and_then call_in held) there;
-      opens = ap (λ (c : PendingCall). c.kind) (sym found.call_is) ∙ o.opens;
-      of_session = ap (λ (c : PendingCall). c.session) (sym found.call_is) ∙ o.of_session;
+      opens = opens;
+      of_session = ap (λ (c : PendingCall). c.session) (sym found.call_is) ∙ o.opens.of_session;
       number = ap (λ (n : Notes). get n.numbering.in_slots slot) is
-          ∙ numbered_first slot now (event_of session now)
-          (ap (λ (c : PendingCall). is_some (event_of session c)) (sym found.call_is) ∙ o.noted);
+          ∙ numbered_first slot now (event_of session now) noted;
     })
+  where
+    opens : now.kind ≡ kind.Open
+    opens = ap (λ (c : PendingCall). c.kind) (sym found.call_is) ∙ o.opens.kind
+
+    noted : is_some (event_of session now) ≡ true
+    noted = ap (λ (c : PendingCall). is_some (event_of session c)) (sym found.call_is) ∙ o.noted
 
 entry_next : (boot : Booted) (session : ℕ) (kernel next : Kernel) (cpu steps : ℕ) (regs : Regs) (reads : List Read)
     → AreBelow kernel.slots kernel.tables → kernel.tables.next_session ≤ session
     → after_event boot kernel (Entry cpu regs steps reads) ≡ Some next
     → EntryKind kernel next cpu steps regs
-    → EarlyNext session next (event_noted session kernel next no_notes (Entry cpu regs steps reads))
+    → EarlyNext boot session next (event_noted session kernel next no_notes (Entry cpu regs steps reads))
 entry_next boot session kernel next cpu steps regs reads below before e (HasAnswer answer inside) =
     let visit : Visit = record { cpu = cpu; regs = regs.a; steps = steps } in
     let at : Entering = record { kernel = kernel; next = next; visit = visit; reads = reads } in
@@ -197,7 +259,7 @@ entry_next boot session kernel next cpu steps regs reads below before e (IsResum
 
 exit_next : (boot : Booted) (session : ℕ) (kernel next : Kernel) (cpu : ℕ) (regs : Regs)
     → kernel.tables.next_session ≤ session → after_event boot kernel (Exit cpu regs) ≡ Some next → ExitKind kernel cpu
-    → EarlyNext session next (event_noted session kernel next no_notes (Exit cpu regs))
+    → EarlyNext boot session next (event_noted session kernel next no_notes (Exit cpu regs))
 exit_next boot session kernel next cpu regs before e (WithAnswer came steps answer inside) =
     let visit : Visit = record { cpu = cpu; regs = came; steps = steps } in
     let out = left boot kernel next cpu regs e in
@@ -233,7 +295,7 @@ exit_next boot session kernel next cpu regs before e (FromCall came steps slot p
 pub early_next : (boot : Booted) (session : ℕ) (kernel next : Kernel) (happened : Event)
     → AreBelow kernel.slots kernel.tables → kernel.tables.next_session ≤ session
     → after_event boot kernel happened ≡ Some next
-    → EarlyNext session next (event_noted session kernel next no_notes happened)
+    → EarlyNext boot session next (event_noted session kernel next no_notes happened)
 early_next boot session kernel next (Entry cpu regs steps reads) below before e =
     entry_next boot session kernel next cpu steps regs reads below before e
     (entry_kind boot kernel next cpu steps regs reads e)

@@ -23,7 +23,6 @@ use Rattle.kernel_model.specs.NewCall.{NewCall, new_call_of, open_waits, opens, 
 use Rattle.kernel_model.proofs.Parts.{if-both, map_or-both, some_of}
 use Rattle.kernel_model.proofs.Past.{after_events-append}
 use Rattle.kernel_model.proofs.SoundMemory.{own_uuid}
-use Rattle.own_model.proofs.KeptSessions.{kept_sessions_known}
 use Rattle.own_model.proofs.Lookups.{app_named}
 use Rattle.own_model.proofs.NewCalls.{OfAllEndings}
 use Rattle.own_model.proofs.NewEntries.{new_call_taken}
@@ -46,6 +45,7 @@ use Rattle.realm_model.proofs.Along.{goes_from}
 use Rattle.realm_model.proofs.Boots.{boots_tied}
 use Rattle.realm_model.proofs.NotesStay.{behind_event}
 use Rattle.realm_model.proofs.Ready.{ready_at}
+use Rattle.realm_model.proofs.SessionsKnown.{kept_sessions_known}
 use Rattle.realm_model.proofs.TiedEvents.{events_along}
 
 -- ---- a number stays behind an event

@@ -35,12 +35,14 @@ pub mod AllAnswered
 pub mod OpenRuns
 pub mod NotesStay
 pub mod EarlyCalls
+pub mod Openings
 pub mod EarlyEvents
 pub mod OneAnswered
 pub mod Answered
 pub mod TwoWorlds
 pub mod SessionEvents
 pub mod Beginnings
+pub mod SessionsKnown
 pub mod KeptSessions
 pub mod SessionReplies
 pub mod OpensFirst

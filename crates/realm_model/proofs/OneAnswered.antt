@@ -2,7 +2,7 @@
 -- application, and each other call comes behind it.
 use Rattle.std.proofs.Common.{◌≡◌, ℕ, zero, suc, ◌+◌, ◌<◌, ◌≤◌, Bool, List, [], ◌∷◌, ◌++◌, Option, Some, None, refl}
 use Rattle.std.proofs.Common.{ap, subst, sym, ◌∙◌, arith, ◌⊎◌, inl, inr}
-use Rattle.std.specs.Prelude.{if◌then◌else◌, is_some, slice_get}
+use Rattle.std.specs.Prelude.{if◌then◌else◌, slice_get}
 use Rattle.std.specs.Option.{option_and_then, option_map, option_map_or}
 use Rattle.std.proofs.lemmas.Bool.Decides.{Decides-eqb}
 use Rattle.std.proofs.lemmas.Option.{option_and_then_some}
@@ -17,23 +17,20 @@ use Rattle.kernel_model.specs.Application.{Application, Booted, uuid_of}
 use Rattle.kernel_model.specs.Argument.{IsNew}
 use Rattle.kernel_model.specs.History.{after_event, kernel_after}
 use Rattle.kernel_model.specs.Instances.{app_of}
-use Rattle.kernel_model.specs.Kernel.{Active, Asks, CallPhase, Ends, InSlot, Inside, Kernel, PendingCall, Runs}
-use Rattle.kernel_model.specs.Kernel.{Tables, Waits, first_kernel}
+use Rattle.kernel_model.specs.Kernel.{Active, InSlot, Inside, Kernel, PendingCall, Tables, first_kernel}
 use Rattle.kernel_model.proofs.Parts.{some_of}
 use Rattle.kernel_model.proofs.SoundNumbers.{numbered, numbers_rise}
 use Rattle.own_model.proofs.BelowNumbers.{AreBelow, below_numbers}
 use Rattle.own_model.proofs.Lookups.{app_named}
 use Rattle.own_model.proofs.NewEntries.{IsTaken}
 use Rattle.own_model.proofs.NewEntries as own_entries
-use Rattle.own_model.proofs.NotedCalls.{not_both, noted_is}
+use Rattle.own_model.proofs.NotedCalls.{not_both}
 use Rattle.own_model.proofs.UuidKept.{uuid_stays}
 use Rattle.own_model.proofs.WholeHistories.{IsAt, IsOn, from_first, uuid_on}
 use Rattle.own_model.proofs.WholeHistories as own_histories
 use Rattle.own_model.specs.Isolation.{IsSessionOf, steps_in}
 use Rattle.own_model.specs.Own as own
-use Rattle.own_model.specs.Parameters.{params_of}
 use Rattle.own_model.specs.declared.own_event.OwnEvent.{OwnEvent}
-use Rattle.own_model.specs.declared.own_event.OwnEvent.TheVariants as own_event
 use Rattle.group_model.proofs.InOrder.{stays_in_order}
 use Rattle.group_model.specs.Group.{Group, group_machine_replies, nobody_there, run}
 use Rattle.group_model.specs.Tied.{HomesAlike}
@@ -46,7 +43,7 @@ use Rattle.realm_model.specs.Forgetting.{own_part}
 use Rattle.realm_model.proofs.Along.{Course, Ended, tied_on}
 use Rattle.realm_model.proofs.Boots.{boots_tied}
 use Rattle.realm_model.proofs.EarlyCalls.{Another, Coming, ItWaits, ItsOpen, early_call}
-use Rattle.realm_model.proofs.EarlyEvents.{EarlyNext, IsOpening, NowNameless, NowOpen, StillEarly, early_next}
+use Rattle.realm_model.proofs.EarlyEvents.{EarlyNext, IsFirstCall, NowNameless, NowOpen, StillEarly, early_next, open_uuid}
 use Rattle.realm_model.proofs.NotesStay.{behind_event, was_free}
 use Rattle.realm_model.proofs.Sessions.{SameEvent, event_same, happened_same}
 
@@ -65,25 +62,6 @@ same_noted member tables notes call came noted =
         → SameEvent (Some came) (own.event_of member call) → (event : OwnEvent) × (own.event_of member call ≡ Some event)
     by_own None is same = absurd (subst (λ (o : Option OwnEvent). SameEvent (Some came) o) is same)
     by_own (Some event) is same = (event, is)
-
--- the event of an open brings the UUID of its call
-open_uuid : (member : ℕ) (call : PendingCall) (event : OwnEvent) (notes : own.Notes) → call.kind ≡ kind.Open
-    → own.event_of member call ≡ Some event → own.uuid_by event call notes ≡ call.uuid
-open_uuid member call event notes opens noted =
-    in_kind call.kind call.phase opens (noted_is call.session member _ event noted).1
-  where
-    in_kind : (call_kind : CallKind) (phase : CallPhase) → call_kind ≡ kind.Open
-        → own.event_in (is_some call.area) call.settled call_kind phase ≡ Some event
-        → own.uuid_by event call notes ≡ call.uuid
-    in_kind kind.Open (Runs job) is e =
-        let same : own_event.Open (params_of job) job.login (is_some call.area) ≡ event = cc in
-        subst (λ (o : OwnEvent). own.uuid_by o call notes ≡ call.uuid) same refl
-    in_kind kind.Open (Asks job wanted payload) is e = absurd cc
-    in_kind kind.Open (Waits params) is e = absurd cc
-    in_kind kind.Open (Ends result params told wakes) is e = absurd cc
-    in_kind (kind.Invoke func) phase is e = absurd cc
-    in_kind kind.Close phase is e = absurd cc
-    in_kind kind.Settled phase is e = absurd cc
 
 -- once the session has its number, no open of it is noted
 pub never_opens : (boot : Booted) (member : ℕ) (kernel next : Kernel) (cpu steps slot : ℕ) (regs : Regs) (reads : List Read)
@@ -146,7 +124,7 @@ one_call a b e = cc
 
 -- where the open of one session is in a slot, the tie has named it
 named_behind : (about : About) (member : ℕ) (next : Kernel) (after : Notes) (g : Group)
-    → about.members.realm ≡ OneSession member → IsOpening member next (own_part after)
+    → about.members.realm ≡ OneSession member → IsFirstCall member next (own_part after)
     → AreTied about next.slots next.tables after g → get after.sessions member ≡ Some 0
 named_behind about member next after g is_one its tied =
     let held = tied.tied.calls.own its.slot 0 its.number in
@@ -221,9 +199,9 @@ module _ (boot : Booted) (member : ℕ) (app : Application) (history : List Even
           → (now.kind ≡ kind.Open) × (now.uuid ≡ Some (uuid_of app)) × (now.session ≡ member)
           × (member < on.next.tables.next_session)
       by_coming (Another none lower) = none_noted none
-      by_coming (ItWaits none more) = none_noted none
+      by_coming (ItWaits none more its) = none_noted none
       by_coming (ItsOpen o) =
-          let opens : now.kind ≡ kind.Open = ap (λ (c : PendingCall). c.kind) (sym found.call_is) ∙ o.opens in
+          let opens : now.kind ≡ kind.Open = ap (λ (c : PendingCall). c.kind) (sym found.call_is) ∙ o.opens.kind in
           let given : member < on.next.tables.next_session =
           subst (λ (k : Kernel). member < k.tables.next_session) found.gives o.given in
           let uuid : now.uuid ≡ Some (uuid_of o.of) = ap (λ (c : PendingCall). c.uuid) (sym found.call_is) ∙ o.uuid in
@@ -240,7 +218,7 @@ module _ (boot : Booted) (member : ℕ) (app : Application) (history : List Even
           ∙ uuid_known past events kernel happened notes g known on given) in (
             opens,
             uuid ∙ ap (λ (a : Application). Some (uuid_of a)) same,
-            ap (λ (c : PendingCall). c.session) (sym found.call_is) ∙ o.of_session,
+            ap (λ (c : PendingCall). c.session) (sym found.call_is) ∙ o.opens.of_session,
             given,
           )
 
@@ -345,18 +323,18 @@ module _ (boot : Booted) (member : ℕ) (app : Application) (history : List Even
       → KnownHere past (happened ∷ events) kernel notes g → (on : IsOn boot about.most past kernel happened events)
       → (after : Notes) → AreTied about on.next.slots on.next.tables after last
       → own_part after ≡ own.event_noted member kernel on.next (own_part notes) happened
-      → (now : own.Notes) → own_part after ≡ now → EarlyNext member on.next now
+      → (now : own.Notes) → own_part after ≡ now → EarlyNext boot member on.next now
       → IsEarly member on.next after ⊎ IsOpened member on.next after
   next_so past events kernel happened notes g last known on after tied noted_so now same (StillEarly nothing lower) =
       inl (record { nothing = same ∙ nothing; lower = lower })
-  next_so past events kernel happened notes g last known on after tied noted_so now same (NowNameless higher nothing) =
+  next_so past events kernel happened notes g last known on after tied noted_so now same (NowNameless of higher of_boot shares nothing opening) =
       let none : None ≡ Some app = ap (λ (n : own.Notes). option_and_then (app_of boot) n.uuid)
       (sym nothing ∙ sym same ∙ noted_so)
       ∙ uuid_known past events kernel happened notes g known on higher in
       absurd cc
-  next_so past events kernel happened notes g last known on after tied noted_so now same (NowOpen given its) =
+  next_so past events kernel happened notes g last known on after tied noted_so now same (NowOpen of given of_boot uuid opening its) =
       inr (record {
-        named = named_behind about member on.next after last refl (subst (IsOpening member on.next) (sym same) its) tied;
+        named = named_behind about member on.next after last refl (subst (IsFirstCall member on.next) (sym same) its) tied;
         given = given;
       })
 

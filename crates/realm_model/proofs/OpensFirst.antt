@@ -184,11 +184,11 @@ module _ (boot : Booted) (member most : ℕ) where
       (below_numbers kernel (in_numbers boot past kernel at.there)) early.lower on.comes)
     where
       by_next : (now : own.Notes) → own_part (event_noted boot (OneSession member) kernel on.next notes happened) ≡ now
-          → EarlyNext member on.next now
+          → EarlyNext boot member on.next now
           → Stands member on.next (event_noted boot (OneSession member) kernel on.next notes happened)
       by_next now same (StillEarly nothing lower) = inl (record { nothing = same ∙ nothing; lower = lower })
-      by_next now same (NowNameless higher nothing) = inr higher
-      by_next now same (NowOpen given its) = inr given
+      by_next now same (NowNameless of higher of_boot shares nothing opening) = inr higher
+      by_next now same (NowOpen of given of_boot uuid opening its) = inr given
 
   first_so : (past events : List Event) (kernel : Kernel) (happened : Event) (notes : Notes)
       → (on : IsOn boot most past kernel happened events) → Stands member kernel notes → OpensFirst (events_noted notes.log)

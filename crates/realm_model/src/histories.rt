@@ -1,6 +1,4 @@
 //! What is answered to a realm in a whole history.
-ghost use Rattle.group_model.specs.Isolation.{AnsweredAsAGroup};
-ghost use Rattle.own_model.specs.Isolation.{AnsweredAsAlone};
 ghost use Rattle.realm_model.specs.Histories.{AnsweredAsARealm, KeptSessionsHaveRealms, SameRealmBeginningsSameReplies, SameRealmEventsSameReplies};
 
 /// The machine of a realm, which has the realm's events alone, answers as the realm was answered, whatever else happens: one
@@ -11,27 +9,17 @@ pub fn realms_are_answered()
 
 /// So in two worlds: realms of one application to which the same has happened were answered the same, after any two legal
 /// histories of any two boots that have the same key.
-pub fn same_realm_events_get_same_replies()
+pub fn same_events_of_realms_get_same_replies()
     ensures { SameRealmEventsSameReplies }
 {}
 
 /// And wherever the same has happened to them, not only in the end: they were answered the same so far, calls that found no
 /// thread too.
-pub fn same_realm_beginnings_get_same_replies()
+pub fn same_beginnings_of_realms_get_same_replies()
     ensures { SameRealmBeginningsSameReplies }
 {}
 
 /// Each session that the kernel keeps after a legal history is a member of such a realm, and keeps its number there.
-pub fn kept_sessions_have_realms()
+pub fn kept_sessions_are_members()
     ensures { KeptSessionsHaveRealms }
-{}
-
-/// What `group_model` says of a group follows from this, in the same words.
-pub fn groups_are_answered_so()
-    ensures { AnsweredAsAGroup }
-{}
-
-/// And so does what `own_model` says of a session: its machine takes what that of a group does, and replies the same.
-pub fn sessions_are_answered_so()
-    ensures { AnsweredAsAlone }
 {}

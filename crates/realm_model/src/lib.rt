@@ -28,17 +28,22 @@
 //!   keeps its number there (`kept_sessions_have_realms`).
 #![tactic(auto)]
 
+mod group_laws;
 mod histories;
 mod realms;
+mod session_laws;
 mod ties;
 
+pub use group_laws::groups_are_answered_as_alone;
 pub use histories::{
-    groups_are_answered_so, kept_sessions_have_realms, realms_are_answered,
-    same_realm_beginnings_get_same_replies, same_realm_events_get_same_replies,
-    sessions_are_answered_so,
+    kept_sessions_are_members, realms_are_answered, same_beginnings_of_realms_get_same_replies,
+    same_events_of_realms_get_same_replies,
 };
 pub use realms::{
     groups_are_realms, session_events_are_realms, sessions_are_realms, worked_examples,
+};
+pub use session_laws::{
+    kept_sessions_are_known, pending_opens_are_known, sessions_are_answered_as_alone,
 };
 pub use ties::{
     boots_are_tied, calls_of_others_keep_realms, exits_of_others_keep_realms,

@@ -1,5 +1,5 @@
 use Rattle.realm_model.proofs.AloneAnswered.{alone_answered as law}
-use Rattle.realm_model.proofs.histories.sessions_are_answered_so.Goals as goal
+use Rattle.realm_model.proofs.session_laws.sessions_are_answered_as_alone.Goals as goal
 
 pub returns : goal.returns
 returns c = law
