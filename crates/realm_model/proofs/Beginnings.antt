@@ -23,7 +23,7 @@ use Rattle.group_model.specs.Group.{Answered, Group, and_reply, group_machine_re
 use Rattle.group_model.specs.Read.{invoke_event, is_open_of, open_event_in}
 use Rattle.group_model.specs.declared.group_event.GroupEvent.{GroupEvent}
 use Rattle.group_model.specs.declared.group_reply.GroupReply.{GroupReply}
-use Rattle.realm_model.specs.Histories.{SameRealmBeginningsSameReplies}
+use Rattle.realm_model.specs.Histories.{IsRealmOf, SameRealmBeginningsSameReplies}
 use Rattle.realm_model.specs.Laws.{events_in, replies_in}
 use Rattle.realm_model.specs.Reading.{Comes, Logged, Notes, RealmEvent, TurnedAway, event_noted, event_of, no_notes, noted}
 use Rattle.realm_model.specs.Reading.{noted_from, number_of, realm_events, realm_replies, settled_event, settled_event_in}
@@ -99,7 +99,7 @@ coming_untold realm tables notes call kind.Settled = settled_in_untold realm not
 
 -- ---- a log
 
-abbrev AreTold : List Logged → Type 0
+abbrev pub AreTold : List Logged → Type 0
 AreTold log = AllByRecursion IsTold log
 
 told_too : (log : List Logged) (last : Logged) → AreTold log → IsTold last → AreTold (log ++ last ∷ [])
@@ -134,7 +134,7 @@ told_from boot realm kernel notes (happened ∷ events) told =
     by None onward = told
     by (Some next) onward = onward next refl
 
-logs_told : (boot : Booted) (history : List Event) (realm : Realm) → AreTold (noted boot history realm).log
+pub logs_told : (boot : Booted) (history : List Event) (realm : Realm) → AreTold (noted boot history realm).log
 logs_told boot history realm = told_from boot realm (first_kernel boot) no_notes history tt
 
 -- ---- the machine does what the log tells
@@ -156,7 +156,7 @@ same_front (Some a) (Some b) replies others same e =
     let tail : replies ≡ others = cc in
     (ap Some head, tail)
 
-abbrev Tells : ℕ → Application → Group → List Logged → Type 0
+abbrev pub Tells : ℕ → Application → Group → List Logged → Type 0
 Tells most app g log = (then : Group) × (run most app g (events_in log) ≡ Some (then, replies_in log))
 
 -- at its first event too
@@ -193,13 +193,13 @@ came_same a b e = cc
 some_answered : (x y : Answered) → Some x ≡ Some y → x ≡ y
 some_answered x y is = cc
 
-abbrev events_of : List Logged → List RealmEvent
+abbrev pub events_of : List Logged → List RealmEvent
 events_of log = map (λ (logged : Logged). logged.0) log
 
-abbrev replies_of : List Logged → List GroupReply
+abbrev pub replies_of : List Logged → List GroupReply
 replies_of log = filter_map (λ (logged : Logged). logged.1) log
 
-both_tell : (most : ℕ) (app : Application) (g : Group) (count : ℕ) (log other : List Logged) → AreTold log → AreTold other
+pub both_tell : (most : ℕ) (app : Application) (g : Group) (count : ℕ) (log other : List Logged) → AreTold log → AreTold other
     → Tells most app g log → Tells most app g other → events_of (take count log) ≡ events_of (take count other)
     → replies_of (take count log) ≡ replies_of (take count other)
 both_tell most app g zero log other told others one two same = refl
@@ -244,17 +244,23 @@ runs_so app most more key events replies le e =
           ∙ ap (λ (all : List GroupReply). Some (end.0.0, all)) end.2,
     )
 
-pub same_beginnings : SameRealmBeginningsSameReplies
-same_beginnings boot another history other realm second count app keys is more same =
+-- in both the machine does what the log tells
+pub two_tell : (boot another : Booted) (history other : List Event) (realm second : Realm) (app : Application)
+    → boot.key ≡ another.key → IsRealmOf boot history realm app → IsRealmOf another other second app
+    → Tells (steps_in history + steps_in other) app (nobody_there boot.key) (noted boot history realm).log
+    × Tells (steps_in history + steps_in other) app (nobody_there boot.key) (noted another other second).log
+two_tell boot another history other realm second app keys is more =
     let most : ℕ = steps_in history + steps_in other in
-    let one = runs_so app (steps_in history) most boot.key (realm_events boot history realm)
-    (realm_replies boot history realm) (first_more (steps_in history) (steps_in other))
-    (realms_answered boot history realm app is) in
     let two = runs_so app (steps_in other) most another.key (realm_events another other second)
     (realm_replies another other second) (second_more (steps_in history) (steps_in other))
-    (realms_answered another other second app more) in
-    both_tell most app (nobody_there boot.key) count (noted boot history realm).log (noted another other second).log
-    (logs_told boot history realm) (logs_told another other second) one (
-      two.0,
-      ap (λ (key : List ℕ). run most app (nobody_there key) (realm_events another other second)) keys ∙ two.1,
-    ) same
+    (realms_answered another other second app more) in (
+      runs_so app (steps_in history) most boot.key (realm_events boot history realm) (realm_replies boot history realm)
+          (first_more (steps_in history) (steps_in other)) (realms_answered boot history realm app is),
+      (two.0, ap (λ (key : List ℕ). run most app (nobody_there key) (realm_events another other second)) keys ∙ two.1),
+    )
+
+pub same_beginnings : SameRealmBeginningsSameReplies
+same_beginnings boot another history other realm second count app keys is more same =
+    let tell = two_tell boot another history other realm second app keys is more in
+    both_tell (steps_in history + steps_in other) app (nobody_there boot.key) count (noted boot history realm).log
+    (noted another other second).log (logs_told boot history realm) (logs_told another other second) tell.0 tell.1 same

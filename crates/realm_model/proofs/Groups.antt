@@ -247,7 +247,7 @@ out_same app kernel notes cpu _ = refl
 
 -- ---- the history
 
-happened_same : (boot : Booted) (app : Application) (kernel next : Kernel) (notes : Notes) (happened : Event)
+pub happened_same : (boot : Booted) (app : Application) (kernel next : Kernel) (notes : Notes) (happened : Event)
     → group_part (event_noted boot (AllSessions app) kernel next notes happened)
     ≡ group.event_noted boot app kernel next (group_part notes) happened
 happened_same boot app kernel next notes (event.Entry cpu regs steps reads) =

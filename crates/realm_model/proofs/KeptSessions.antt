@@ -23,6 +23,7 @@ use Rattle.kernel_model.specs.NewCall.{NewCall, new_call_of, open_waits, opens, 
 use Rattle.kernel_model.proofs.Parts.{if-both, map_or-both, some_of}
 use Rattle.kernel_model.proofs.Past.{after_events-append}
 use Rattle.kernel_model.proofs.SoundMemory.{own_uuid}
+use Rattle.session_table.specs.declared.session.Session.{Session}
 use Rattle.own_model.proofs.Lookups.{app_named}
 use Rattle.own_model.proofs.NewCalls.{OfAllEndings}
 use Rattle.own_model.proofs.NewEntries.{new_call_taken}
@@ -113,7 +114,7 @@ number_stays boot realm kernel next notes session number happened names has come
         (subst (λ (call : PendingCall). GetsNext kernel.tables.next_session call call.kind) found.call_is found.holds) has
 
 -- what is noted of more events goes on from what was noted before them
-noted-append : (boot : Booted) (realm : Realm) (kernel last : Kernel) (notes : Notes) (events more : List Event)
+pub noted-append : (boot : Booted) (realm : Realm) (kernel last : Kernel) (notes : Notes) (events more : List Event)
     → after_events boot kernel events ≡ Some last
     → noted_from boot realm kernel notes (events ++ more)
     ≡ noted_from boot realm last (noted_from boot realm kernel notes events) more
@@ -132,7 +133,7 @@ noted-append boot realm kernel last notes (happened ∷ events) more e =
 
 module _ (boot : Booted) (app : Application) (most : ℕ) (of_boot : app_of boot (uuid_of app) ≡ Some app)
     (single : is_single app ≡ true) where
-  abbrev about : About
+  abbrev pub about : About
   about = record { members = record { realm = AllSessions app; app = app }; most = most; key = boot.key }
 
   is_realm : IsRealm boot about.members
@@ -162,10 +163,10 @@ module _ (boot : Booted) (app : Application) (most : ℕ) (of_boot : app_of boot
       }
 
   -- kernel and machine at the end of a history
-  record IsTiedAtEnd (last : Kernel) (notes : Notes) : Type 0 where
-    group : Group
-    ordered : IsInOrder group
-    tied : AreTied about last.slots last.tables notes group
+  pub record IsTiedAtEnd (last : Kernel) (notes : Notes) : Type 0 where
+    pub group : Group
+    pub ordered : IsInOrder group
+    pub tied : AreTied about last.slots last.tables notes group
 
   tied_to_end : (past : List Event) (kernel last : Kernel) (notes : Notes) (g : Group) (events : List Event) → IsInOrder g
       → AreTied about kernel.slots kernel.tables notes g → IsAt boot most past kernel events
@@ -203,34 +204,37 @@ module _ (boot : Booted) (app : Application) (most : ℕ) (of_boot : app_of boot
       (number_stays boot (AllSessions app) kernel after.on.next notes session number happened tied.tied.session_names has
       after.on.comes)
 
-  from_boot : (history : List Event) (last : Kernel) → IsAt boot most [] (first_kernel boot) history
+  pub from_boot : (history : List Event) (last : Kernel) → IsAt boot most [] (first_kernel boot) history
       → kernel_after boot history ≡ Some last → IsTiedAtEnd last (noted boot history (AllSessions app))
   from_boot history last at there =
       tied_to_end [] (first_kernel boot) last no_notes (nobody_there boot.key) history (stays_in_order.first boot.key)
       (boots_tied boot about) at there
 
-  -- a session that is kept on an instance of the application has a number
-  has_number : (history : List Event) (kernel : Kernel) (session : ℕ) → IsAt boot most [] (first_kernel boot) history
-      → kernel_after boot history ≡ Some kernel → IsKept boot kernel session app
-      → IsSome (get (noted boot history (AllSessions app)).sessions session)
-  has_number history kernel session at there kept = by (get (noted boot history (AllSessions app)).sessions session) refl
+  -- a session on an instance of theirs has a number
+  pub number_there : (kernel : Kernel) (notes : Notes) (end : IsTiedAtEnd kernel notes) (session : ℕ) (kept : Session)
+      → get kernel.tables.sessions session ≡ Some kept → IsSome (get end.tied.instances kept.instance)
+      → IsSome (get notes.sessions session)
+  number_there kernel notes end session kept there on = by (get notes.sessions session) refl
     where
-      end : IsTiedAtEnd kernel (noted boot history (AllSessions app))
-      end = from_boot history kernel at there
-
-      by : (found : Option ℕ) → get (noted boot history (AllSessions app)).sessions session ≡ found
-          → IsSome (get (noted boot history (AllSessions app)).sessions session)
+      by : (found : Option ℕ) → get notes.sessions session ≡ found → IsSome (get notes.sessions session)
       by (Some number) is = subst (IsSome {T = ℕ}) (sym is) refl
       by None none =
-          let gone = end.tied.tied.sessions.others session kept.kept kept.there none in
-          let of = All-get
-          (λ (one : ℕ × Instance). IsOfRealm about.members end.tied.instances one.0 one.1.uuid) kernel.tables.instances
-          kept.kept.instance kept.instance end.tied.tied.instances.of_app kept.has in
-          let its = of.named tt (sym (app_named boot kept.instance.uuid app kept.of_app)) in
-          let no : IsSome {T = ℕ} None = subst (IsSome {T = ℕ}) gone its in
+          let no : IsSome {T = ℕ} None = subst (IsSome {T = ℕ}) (end.tied.tied.sessions.others session kept there none) on in
           absurd cc
 
-  keeps_number : (history more : List Event) (session number : ℕ) (last : Kernel)
+  -- and so has one that is kept on an instance of the application
+  pub has_number : (history : List Event) (kernel : Kernel) (session : ℕ) → IsAt boot most [] (first_kernel boot) history
+      → kernel_after boot history ≡ Some kernel → IsKept boot kernel session app
+      → IsSome (get (noted boot history (AllSessions app)).sessions session)
+  has_number history kernel session at there kept =
+      let end = from_boot history kernel at there in
+      let of = All-get
+      (λ (one : ℕ × Instance). IsOfRealm about.members end.tied.instances one.0 one.1.uuid) kernel.tables.instances
+      kept.kept.instance kept.instance end.tied.tied.instances.of_app kept.has in
+      number_there kernel (noted boot history (AllSessions app)) end session kept.kept kept.there
+      (of.named tt (sym (app_named boot kept.instance.uuid app kept.of_app)))
+
+  pub keeps_number : (history more : List Event) (session number : ℕ) (last : Kernel)
       → kernel_after boot (history ++ more) ≡ Some last → 1000000 * (length history + length more) ≤ most
       → Has session number (noted boot history (AllSessions app))
       → Has session number (noted boot (history ++ more) (AllSessions app))

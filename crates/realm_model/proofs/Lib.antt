@@ -47,3 +47,10 @@ pub mod KeptSessions
 pub mod SessionReplies
 pub mod OpensFirst
 pub mod AloneAnswered
+pub mod SessionBeginnings
+pub mod GroupBeginnings
+pub mod SessionCalls
+pub mod ShownAlike
+pub mod GroupMembers
+pub mod GroupCalls
+pub mod CallsInRealms

@@ -63,7 +63,7 @@ use Rattle.own_model.proofs.OwnResumes.{given_nothing, asked_not, runs_seen, giv
 -- ---- what is known of a call that waits
 
 -- what the one waits for, the other does
-same_awaited : (a b : Awaited) → Some a ≡ Some b → a ≡ b
+pub same_awaited : (a b : Awaited) → Some a ≡ Some b → a ≡ b
 same_awaited a b e = cc
 
 same_call : (a b : PendingCall) → Some a ≡ Some b → a ≡ b
@@ -73,13 +73,13 @@ same_session : (a b : Session) → Some a ≡ Some b → a ≡ b
 same_session a b e = cc
 
 -- the waiter of a slot
-record HasWaiter (members : Members) (instances : NumberMap ℕ) (calls : Calls) (slot : ℕ) : Type 0 where
-  waiter : Waiter
-  here : waiter.slot ≡ slot
-  waits_so : IsWaiter calls waiter
-  of_group : IsOfRealm members instances waiter.instance waiter.uuid
+pub record HasWaiter (members : Members) (instances : NumberMap ℕ) (calls : Calls) (slot : ℕ) : Type 0 where
+  pub waiter : Waiter
+  pub here : waiter.slot ≡ slot
+  pub waits_so : IsWaiter calls waiter
+  pub of_group : IsOfRealm members instances waiter.instance waiter.uuid
 
-waiter_there : (members : Members) (instances : NumberMap ℕ) (calls : Calls) (slot : ℕ) (waiters : List Waiter)
+pub waiter_there : (members : Members) (instances : NumberMap ℕ) (calls : Calls) (slot : ℕ) (waiters : List Waiter)
     → waits waiters slot ≡ true → All (IsWaiter calls) waiters
     → All (λ (waiter : Waiter). IsOfRealm members instances waiter.instance waiter.uuid) waiters
     → HasWaiter members instances calls slot

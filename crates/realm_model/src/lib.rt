@@ -30,20 +30,28 @@
 
 mod group_laws;
 mod histories;
+mod one_law;
 mod realms;
 mod session_laws;
 mod ties;
 
-pub use group_laws::groups_are_answered_as_alone;
+pub use group_laws::{
+    calls_are_in_the_log, groups_are_answered_as_alone, kept_sessions_are_of_the_group,
+    pending_opens_are_of_the_group, same_group_beginnings_get_same_replies,
+    same_group_events_get_same_replies,
+};
 pub use histories::{
     kept_sessions_are_members, realms_are_answered, same_beginnings_of_realms_get_same_replies,
     same_events_of_realms_get_same_replies,
 };
+pub use one_law::calls_are_in_realms;
 pub use realms::{
     groups_are_realms, session_events_are_realms, sessions_are_realms, worked_examples,
 };
 pub use session_laws::{
-    kept_sessions_are_known, pending_opens_are_known, sessions_are_answered_as_alone,
+    calls_are_in_logs, kept_sessions_are_known, pending_opens_are_known,
+    same_beginnings_get_same_replies, same_events_get_same_replies, same_events_show_the_same,
+    sessions_are_answered_as_alone,
 };
 pub use ties::{
     boots_are_tied, calls_of_others_keep_realms, exits_of_others_keep_realms,
