@@ -24,7 +24,7 @@ use Rattle.realm_model.proofs.SessionEvents.{session_events_are_realms, session_
 use Rattle.realm_model.proofs.SessionReplies.{AreReplies, Ended, own_replies_told, replies_so}
 use Rattle.realm_model.proofs.Sessions.{sessions_are_realms}
 
-opens_first : (boot : Booted) (history : List Event) (member : ℕ) (app : Application) → IsSessionOf boot history member app
+pub opens_first : (boot : Booted) (history : List Event) (member : ℕ) (app : Application) → IsSessionOf boot history member app
     → OpensFirst (own.own_events boot history member)
 opens_first boot history member app s =
     let last = some_of (kernel_after boot history) s.legal.follows in
@@ -48,8 +48,16 @@ told_so boot history member app replies says same =
     (subst (λ (es : List OwnEvent). AreReplies es replies) (sessions_are_realms.events boot history member) are)
     (same ∙ ap (λ (es : List OwnEvent). replies_as es replies) (sessions_are_realms.events boot history member))
 
-pub alone_answered : AnsweredAsAlone
-alone_answered boot history member app s =
+-- its machine answers so, and its realm was told the same
+record IsAnswered (boot : Booted) (history : List Event) (member : ℕ) (app : Application) : Type 0 where
+  says : solo_replies (steps_in history) app boot.key (own.own_events boot history member)
+      ≡ Some (own.own_replies boot history member)
+  told : realm_replies boot history (OneSession member)
+      ≡ replies_as (own.own_events boot history member) (own.own_replies boot history member)
+
+answered : (boot : Booted) (history : List Event) (member : ℕ) (app : Application) → IsSessionOf boot history member app
+    → IsAnswered boot history member app
+answered boot history member app s =
     by_solo (solo_replies (steps_in history) app boot.key (own.own_events boot history member)) refl
     (replies_as_a_session (steps_in history) app boot.key (own.own_events boot history member)
     (realm_replies boot history (OneSession member)) s.shares_none (opens_first boot history member app s)
@@ -60,8 +68,20 @@ alone_answered boot history member app s =
         → solo_replies (steps_in history) app boot.key (own.own_events boot history member) ≡ found
         → IsSomeAnd found (λ (replies : List OwnReply).
         realm_replies boot history (OneSession member) ≡ replies_as (own.own_events boot history member) replies)
-        → solo_replies (steps_in history) app boot.key (own.own_events boot history member)
-        ≡ Some (own.own_replies boot history member)
+        → IsAnswered boot history member app
     by_solo None says same = absurd same
     by_solo (Some replies) says same =
-        says ∙ ap (λ (rs : List OwnReply). Some rs) (sym (told_so boot history member app replies says same))
+        let told = told_so boot history member app replies says same in
+        record {
+          says = says ∙ ap (λ (rs : List OwnReply). Some rs) (sym told);
+          told = same ∙ ap (λ (rs : List OwnReply). replies_as (own.own_events boot history member) rs) (sym told);
+        }
+
+pub alone_answered : AnsweredAsAlone
+alone_answered boot history member app s = (answered boot history member app s).says
+
+-- what its realm was told is what the session was
+pub replies_are_realms : (boot : Booted) (history : List Event) (member : ℕ) (app : Application)
+    → IsSessionOf boot history member app → realm_replies boot history (OneSession member)
+    ≡ replies_as (own.own_events boot history member) (own.own_replies boot history member)
+replies_are_realms boot history member app s = (answered boot history member app s).told

@@ -54,3 +54,5 @@ pub mod ShownAlike
 pub mod GroupMembers
 pub mod GroupCalls
 pub mod CallsInRealms
+pub mod OneLaw
+pub mod EachKept

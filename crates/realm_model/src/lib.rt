@@ -44,7 +44,10 @@ pub use histories::{
     kept_sessions_are_members, realms_are_answered, same_beginnings_of_realms_get_same_replies,
     same_events_of_realms_get_same_replies,
 };
-pub use one_law::calls_are_in_realms;
+pub use one_law::{
+    calls_are_in_realms, each_kept_session_has_a_realm, kept_sessions_have_realms,
+    realms_are_answered_as_alone, same_realm_events_get_same_replies,
+};
 pub use realms::{
     groups_are_realms, session_events_are_realms, sessions_are_realms, worked_examples,
 };
