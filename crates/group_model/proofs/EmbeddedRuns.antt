@@ -213,7 +213,7 @@ all_can most app (event ∷ events) alone no_opens =
     (all_can most app events alone (All-tail IsNoOpen event events no_opens))
 
 -- from the start on
-first_can : (most : ℕ) (app : Application) (key : List ℕ) (events : List OwnEvent) (end : Ended) → is_single app ≡ false
+pub first_can : (most : ℕ) (app : Application) (key : List ℕ) (events : List OwnEvent) (end : Ended) → is_single app ≡ false
     → OpensFirst events → run most app (nobody_there key) (filter_map event_as events) ≡ Some end
     → CanAllCome most app (unopened key) events
 first_can most app key [] end alone opens runs = tt
