@@ -56,3 +56,4 @@ pub mod GroupCalls
 pub mod CallsInRealms
 pub mod OneLaw
 pub mod EachKept
+pub mod OwnEvents

@@ -46,7 +46,7 @@ pub use histories::{
 };
 pub use one_law::{
     calls_are_in_realms, each_kept_session_has_a_realm, kept_sessions_have_realms,
-    realms_are_answered_as_alone, same_realm_events_get_same_replies,
+    own_events_can_come, realms_are_answered_as_alone, same_realm_events_get_same_replies,
 };
 pub use realms::{
     groups_are_realms, session_events_are_realms, sessions_are_realms, worked_examples,

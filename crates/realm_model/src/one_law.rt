@@ -1,7 +1,12 @@
 //! One law for a session whose application's sessions share no instance, and for sessions that share one, in the words of
 //! `group_model`'s `OneLaw`.
 ghost use Rattle.group_model.specs.OneLaw.{AnsweredAsARealm, CallsAreInRealms, EachKeptSessionHasARealm, KeptSessionsHaveRealms};
-ghost use Rattle.group_model.specs.OneLaw.{SameRealmEventsSameReplies};
+ghost use Rattle.group_model.specs.OneLaw.{OwnEventsCanCome, SameRealmEventsSameReplies};
+
+/// What has happened to a session of a legal history could all come, one after the other.
+pub fn own_events_can_come()
+    ensures { OwnEventsCanCome }
+{}
 
 /// Those who share an instance are answered as the machine of a group which has what happened to them alone.
 pub fn realms_are_answered_as_alone()
