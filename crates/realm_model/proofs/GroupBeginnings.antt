@@ -1,5 +1,5 @@
 -- Two groups to which the same has happened were answered the same, from their beginnings on, as their realms were.
-use Rattle.std.proofs.Common.{◌≡◌, ℕ, zero, suc, ◌+◌, ◌≤◌, List, [], ◌∷◌, length, Option, Some, None, refl, ap, subst, sym, ◌∙◌, arith}
+use Rattle.std.proofs.Common.{◌≡◌, ℕ, zero, suc, ◌+◌, ◌≤◌, List, [], ◌∷◌, length, Some, refl, ap, subst, sym, ◌∙◌, arith}
 use Rattle.std.specs.Prelude.{filter_map, map, take}
 use Rattle.std.specs.List.{cons_option}
 use Rattle.std.proofs.lemmas.List.{take_all}
@@ -10,7 +10,6 @@ use Rattle.group_model.specs.Group.{Group, nobody_there, run}
 use Rattle.group_model.specs.Isolation.{SameGroupBeginningsSameReplies, SameGroupEventsSameReplies, first_entries}
 use Rattle.group_model.specs.Laws as group
 use Rattle.group_model.specs.Read as read
-use Rattle.group_model.specs.declared.group_event.GroupEvent.{GroupEvent}
 use Rattle.group_model.specs.declared.group_reply.GroupReply.{GroupReply}
 use Rattle.realm_model.specs.Reading.{Comes, Logged, RealmEvent, TurnedAway, noted, of_machine}
 use Rattle.realm_model.specs.Realm.{AllSessions}

@@ -1,12 +1,12 @@
 -- What has happened to a session of a legal history could all come, one after the other: its open first, and the rest since the
 -- machine of its realm takes it.
-use Rattle.std.proofs.Common.{◌≡◌, List, Some, ap, ◌∙◌}
+use Rattle.std.proofs.Common.{List, ap, ◌∙◌}
 use Rattle.kernel_model.proofs.Parts.{option_map_some}
 use Rattle.own_model.specs.Isolation.{steps_in}
 use Rattle.own_model.specs.Own.{own_events}
 use Rattle.group_model.proofs.EmbeddedRuns.{first_can}
 use Rattle.group_model.proofs.MoreSteps.{Ended}
-use Rattle.group_model.specs.Group.{group_machine_replies, nobody_there, run}
+use Rattle.group_model.specs.Group.{nobody_there, run}
 use Rattle.group_model.specs.OneLaw.{OwnEventsCanCome}
 use Rattle.group_model.specs.declared.group_event.GroupEvent.{GroupEvent}
 use Rattle.realm_model.specs.Reading.{realm_events, realm_replies}

@@ -16,7 +16,7 @@ use Rattle.group_model.specs.Embedding.{event_as}
 use Rattle.group_model.specs.declared.group_event.GroupEvent.{GroupEvent}
 use Rattle.group_model.specs.declared.group_reply.GroupReply.{GroupReply}
 use Rattle.realm_model.specs.Forgetting.{forgotten, own_logged}
-use Rattle.realm_model.specs.Histories.{first_answered, first_happened}
+use Rattle.realm_model.specs.Histories.{first_happened}
 use Rattle.realm_model.specs.Reading.{Comes, Logged, RealmEvent, TurnedAway, noted}
 use Rattle.realm_model.specs.Realm.{OneSession}
 use Rattle.realm_model.proofs.Beginnings.{same_beginnings as same_of_realms}

@@ -22,10 +22,18 @@
 //!   (`own_exits_keep_realms`, `own_resumes_keep_realms`).
 //! - In each legal history the machine of a realm, which has the realm's events alone, answers as the realm was answered
 //!   (`realms_are_answered`); so two realms of one application to which the same has happened were answered the same
-//!   (`same_realm_events_get_same_replies`), in the end and at each beginning
-//!   (`same_realm_beginnings_get_same_replies`), and the laws of a group and of a session follow, in their own words
-//!   (`groups_are_answered_so`, `sessions_are_answered_so`). Each session that the kernel keeps is a member of a realm, and
-//!   keeps its number there (`kept_sessions_have_realms`).
+//!   (`same_events_of_realms_get_same_replies`), in the end and at each beginning
+//!   (`same_beginnings_of_realms_get_same_replies`). Each session that the kernel keeps is a member of a realm, and keeps its
+//!   number there (`kept_sessions_are_members`).
+//! - What `own_model` says of one session follows, in its own words: it is answered as its machine answers
+//!   (`sessions_are_answered_as_alone`), two to which the same has happened are answered and shown the same
+//!   (`same_events_get_same_replies`, `same_beginnings_get_same_replies`, `same_events_show_the_same`), which sessions this is
+//!   about (`kept_sessions_are_known`, `pending_opens_are_known`), and that no call of theirs is left out (`calls_are_in_logs`).
+//! - And so does what `group_model` says of a group (`groups_are_answered_as_alone`, `same_group_events_get_same_replies`,
+//!   `same_group_beginnings_get_same_replies`, `kept_sessions_are_of_the_group`, `pending_opens_are_of_the_group`,
+//!   `calls_are_in_the_log`), and of both at once in `OneLaw` (`own_events_can_come`, `realms_are_answered_as_alone`,
+//!   `same_realm_events_get_same_replies`, `kept_sessions_have_realms`, `each_kept_session_has_a_realm`,
+//!   `calls_are_in_realms`).
 #![tactic(auto)]
 
 mod group_laws;
