@@ -227,10 +227,10 @@ both_tell most app g (suc count) ((Comes came, first) ∷ log) ((Comes coming, s
 
 -- ---- two worlds
 
-first_more : (a b : ℕ) → a ≤ a + b
+pub first_more : (a b : ℕ) → a ≤ a + b
 first_more a b = omega arith
 
-second_more : (a b : ℕ) → b ≤ a + b
+pub second_more : (a b : ℕ) → b ≤ a + b
 second_more a b = omega arith
 
 -- given more steps to a job's stop, the machine runs on with the same replies

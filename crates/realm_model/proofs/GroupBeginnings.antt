@@ -1,5 +1,5 @@
 -- Two groups to which the same has happened were answered the same, from their beginnings on, as their realms were.
-use Rattle.std.proofs.Common.{◌≡◌, ℕ, zero, suc, ◌+◌, ◌≤◌, List, [], ◌∷◌, length, Some, refl, ap, subst, sym, ◌∙◌, arith}
+use Rattle.std.proofs.Common.{◌≡◌, ℕ, zero, suc, ◌+◌, List, [], ◌∷◌, length, Some, refl, ap, subst, sym, ◌∙◌}
 use Rattle.std.specs.Prelude.{filter_map, map, take}
 use Rattle.std.specs.List.{cons_option}
 use Rattle.std.proofs.lemmas.List.{take_all}
@@ -13,7 +13,7 @@ use Rattle.group_model.specs.Read as read
 use Rattle.group_model.specs.declared.group_reply.GroupReply.{GroupReply}
 use Rattle.realm_model.specs.Reading.{Comes, Logged, RealmEvent, TurnedAway, noted, of_machine}
 use Rattle.realm_model.specs.Realm.{AllSessions}
-use Rattle.realm_model.proofs.Beginnings.{AreTold, Tells, both_tell, events_of, logs_told, replies_of, two_tell}
+use Rattle.realm_model.proofs.Beginnings.{AreTold, Tells, both_tell, events_of, first_more, logs_told, replies_of, second_more, two_tell}
 use Rattle.realm_model.proofs.Groups.{groups_are_realms}
 
 -- ---- a group's log as one of its realm
@@ -94,9 +94,3 @@ same_events boot another history other app keys s t same =
     ∙ same_beginnings boot another history other (length log + length other_log) app keys s t
     (ap group.events_in all ∙ same ∙ ap group.events_in (sym all_other))
     ∙ ap group.replies_in all_other
-  where
-    first_more : (a b : ℕ) → a ≤ a + b
-    first_more a b = omega arith
-
-    second_more : (a b : ℕ) → b ≤ a + b
-    second_more a b = omega arith

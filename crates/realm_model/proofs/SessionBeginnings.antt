@@ -1,6 +1,6 @@
 -- Two sessions to which the same has happened were answered the same, from their beginnings on, as their realms were: each entry of
 -- a session's log tells that of its realm's.
-use Rattle.std.proofs.Common.{◌≡◌, ℕ, zero, suc, ◌+◌, ◌≤◌, List, [], ◌∷◌, length, Option, Some, None, refl, ap, subst, sym, ◌∙◌, arith}
+use Rattle.std.proofs.Common.{◌≡◌, ℕ, zero, suc, ◌+◌, List, [], ◌∷◌, length, Option, Some, None, refl, ap, subst, sym, ◌∙◌}
 use Rattle.std.specs.Prelude.{filter_map, map, take}
 use Rattle.std.specs.List.{AllByRecursion, cons_option}
 use Rattle.std.specs.Option.{option_and_then, option_map, option_map_or}
@@ -19,7 +19,7 @@ use Rattle.realm_model.specs.Forgetting.{forgotten, own_logged}
 use Rattle.realm_model.specs.Histories.{first_happened}
 use Rattle.realm_model.specs.Reading.{Comes, Logged, RealmEvent, TurnedAway, noted}
 use Rattle.realm_model.specs.Realm.{OneSession}
-use Rattle.realm_model.proofs.Beginnings.{same_beginnings as same_of_realms}
+use Rattle.realm_model.proofs.Beginnings.{first_more, same_beginnings as same_of_realms, second_more}
 use Rattle.realm_model.proofs.SessionEvents.{Fits, session_log_fits}
 use Rattle.realm_model.proofs.Sessions.{sessions_are_realms}
 
@@ -108,9 +108,3 @@ same_events boot another history other session number app keys s t same =
     ∙ same_beginnings boot another history other session number (length log + length other_log) app keys s t
     (ap own.events_in all ∙ same ∙ ap own.events_in (sym all_other))
     ∙ ap own.replies_in all_other
-  where
-    first_more : (a b : ℕ) → a ≤ a + b
-    first_more a b = omega arith
-
-    second_more : (a b : ℕ) → b ≤ a + b
-    second_more a b = omega arith
