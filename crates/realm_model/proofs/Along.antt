@@ -1,6 +1,6 @@
 -- The machine of a realm goes along with a whole history, where what is known of the realm goes along too.
 use Rattle.std.proofs.Common.{◌≡◌, ℕ, suc, List, [], ◌∷◌, ◌++◌, length, Option, Some, None, refl, ap, subst}
-use Rattle.std.proofs.Common.{sym, ◌∙◌}
+use Rattle.std.proofs.Common.{sym, ◌∙◌, ◌+◌, ◌≤◌, arith}
 use Rattle.std.specs.Prelude.{filter_map, map}
 use Rattle.std.specs.Option.{option_and_then, option_map, option_map_or}
 use Rattle.std.proofs.lemmas.List.{append_assoc, append-nil, map-append}
@@ -8,7 +8,7 @@ use Rattle.std.proofs.lemmas.List.Elements.{filter_map-append}
 use Rattle.std.proofs.lemmas.Option.{option_and_then_some}
 use Rattle.event_journal.specs.declared.event.Event.{Event}
 use Rattle.kernel_model.specs.Application.{Application, Booted}
-use Rattle.kernel_model.specs.History.{after_event}
+use Rattle.kernel_model.specs.History.{after_event, after_events}
 use Rattle.kernel_model.specs.Kernel.{Kernel}
 use Rattle.own_model.proofs.WholeHistories.{IsAt, IsOn, bound_now, on_from}
 use Rattle.group_model.proofs.InOrder.{stays_in_order}
@@ -16,12 +16,14 @@ use Rattle.group_model.specs.Group.{Answered, Group, and_reply, run, step}
 use Rattle.group_model.specs.InOrder.{IsInOrder}
 use Rattle.group_model.specs.declared.group_event.GroupEvent.{GroupEvent}
 use Rattle.group_model.specs.declared.group_reply.GroupReply.{GroupReply}
-use Rattle.realm_model.specs.Histories.{ComesSo}
+use Rattle.realm_model.specs.Histories.{AllWithin, ComesSo}
 use Rattle.realm_model.specs.Laws.{About, AreTied, GoesAlong, IsRealm, events_in, replies_in}
 use Rattle.realm_model.specs.Reading.{Logged, Notes, event_noted, noted_from, of_machine}
 use Rattle.realm_model.specs.Realm.{Realm}
+use Rattle.realm_model.proofs.NotesStay.{behind_event}
 use Rattle.realm_model.proofs.Ready.{ready_at}
 use Rattle.realm_model.proofs.TiedEvents.{events_along}
+use Rattle.realm_model.proofs.Within.{items_within, within-append}
 
 -- ---- the machine at events in a row
 
@@ -92,27 +94,58 @@ replies_append items more =
     ∙ filter_map-append (λ (item : GroupEvent × Option GroupReply). item.1) (filter_map of_machine items)
     (filter_map of_machine more)
 
--- what is noted from here on is what the machine does
-pub record RunsAlong (most : ℕ) (app : Application) (before : Notes) (g : Group) (after : Notes) : Type 0 where
+-- what is noted from here on is what the machine does, within bounds; and this is so at the end
+pub record RunsAlong (most : ℕ) (app : Application) (AtEnd : Notes → Group → Type 0) (before : Notes) (g : Group)
+    (after : Notes) : Type 0 where
   pub items : List Logged
   pub logged : after.log ≡ before.log ++ items
   pub then : Group
   pub replies : run most app g (events_in items) ≡ Some (then, replies_in items)
+  pub more : before.numbering.entered ≤ after.numbering.entered
+  pub within : AllWithin after.numbering.entered most app g (events_in items)
+  pub end : AtEnd after then
 
-runs_on : (most : ℕ) (app : Application) (before between after : Notes) (g after_it : Group) (items : List Logged)
-    → between.log ≡ before.log ++ items
-    → run most app g (events_in items) ≡ Some (after_it, replies_in items) → RunsAlong most app between after_it after
-    → RunsAlong most app before g after
-runs_on most app before between after g after_it items logged replies rest = record {
-  items = items ++ rest.items;
-  logged = rest.logged ∙ ap (λ (log : List Logged). log ++ rest.items) logged
-      ∙ append_assoc before.log items rest.items;
-  then = rest.then;
-  replies = ap (λ (es : List GroupEvent). run most app g es) (events_append items rest.items)
-      ∙ run-append most app g after_it rest.then (events_in items) (events_in rest.items) (replies_in items)
-      (replies_in rest.items) replies rest.replies
-      ∙ ap (λ (rs : List GroupReply). Some (rest.then, rs)) (sym (replies_append items rest.items));
-}
+no_less : (a b c : ℕ) → a ≤ b → b ≤ c → a ≤ c
+no_less a b c le more = omega (arith, le, more)
+
+runs_on : (most : ℕ) (app : Application) (AtEnd : Notes → Group → Type 0) (before between after : Notes) (g after_it : Group)
+    (items : List Logged) → between.log ≡ before.log ++ items
+    → run most app g (events_in items) ≡ Some (after_it, replies_in items)
+    → before.numbering.entered ≤ between.numbering.entered
+    → (before.numbering.entered ≤ after.numbering.entered → AllWithin after.numbering.entered most app g (events_in items))
+    → RunsAlong most app AtEnd between after_it after → RunsAlong most app AtEnd before g after
+runs_on most app AtEnd before between after g after_it items logged replies grows within rest =
+    let more = no_less before.numbering.entered between.numbering.entered after.numbering.entered grows rest.more in record {
+      items = items ++ rest.items;
+      logged = rest.logged ∙ ap (λ (log : List Logged). log ++ rest.items) logged
+          ∙ append_assoc before.log items rest.items;
+      then = rest.then;
+      replies = ap (λ (es : List GroupEvent). run most app g es) (events_append items rest.items)
+          ∙ run-append most app g after_it rest.then (events_in items) (events_in rest.items) (replies_in items)
+          (replies_in rest.items) replies rest.replies
+          ∙ ap (λ (rs : List GroupReply). Some (rest.then, rs)) (sym (replies_append items rest.items));
+      more = more;
+      within = subst (AllWithin after.numbering.entered most app g) (sym (events_append items rest.items))
+          (within-append after.numbering.entered most app g after_it (events_in items) (events_in rest.items) (replies_in items)
+          (within more) replies rest.within);
+      end = rest.end;
+    }
+
+-- no fewer calls have come in
+pub entered_grows : (boot : Booted) (realm : Realm) (kernel next : Kernel) (notes : Notes) (happened : Event)
+    → after_event boot kernel happened ≡ Some next
+    → notes.numbering.entered ≤ (event_noted boot realm kernel next notes happened).numbering.entered
+entered_grows boot realm kernel next notes happened comes =
+    behind_event (λ sessions next_session entered log. notes.numbering.entered ≤ entered)
+    (λ sessions next_session entered log last other told holds. holds) boot realm kernel next happened notes
+    (all notes.numbering.entered)
+    (λ cpu steps slot regs reads now came is_entry is inside there its. one_more notes.numbering.entered) comes
+  where
+    all : (n : ℕ) → n ≤ n
+    all n = omega arith
+
+    one_more : (n : ℕ) → n ≤ n + 1
+    one_more n = omega arith
 
 -- what is noted of it goes on behind its first event
 pub goes_from : (boot : Booted) (realm : Realm) (kernel next : Kernel) (notes : Notes) (happened : Event)
@@ -137,26 +170,54 @@ pub record Course (boot : Booted) (about : About)
       Known (past ++ happened ∷ []) events on.next (event_noted boot about.members.realm kernel on.next notes happened)
       goes.then
 
+-- kernel and machine at the end of a history, with what is known then
+pub record EndsTied (about : About) (Known : List Event → List Event → Kernel → Notes → Group → Type 0) (last : Kernel)
+    (notes : Notes) (g : Group) : Type 0 where
+  pub history : List Event
+  pub known : Known history [] last notes g
+  pub tied : AreTied about last.slots last.tables notes g
+
 module _ (boot : Booted) (about : About) (Known : List Event → List Event → Kernel → Notes → Group → Type 0)
-    (course : Course boot about Known) (shares : IsRealm boot about.members) (key : about.key ≡ boot.key) where
+    (course : Course boot about Known) (shares : IsRealm boot about.members) (key : about.key ≡ boot.key) (last : Kernel) where
+  abbrev pub Runs : Notes → Group → Notes → Type 0
+  Runs notes g after = RunsAlong about.most about.members.app (EndsTied about Known last) notes g after
+
   pub tied_on : (past : List Event) (kernel : Kernel) (notes : Notes) (g : Group) (events : List Event) → IsInOrder g
       → Known past events kernel notes g → AreTied about kernel.slots kernel.tables notes g
-      → IsAt boot about.most past kernel events
-      → RunsAlong about.most about.members.app notes g (noted_from boot about.members.realm kernel notes events)
-  tied_on past kernel notes g [] ordered known tied at =
-      record { items = []; logged = sym (append-nil notes.log); then = g; replies = refl }
-  tied_on past kernel notes g (happened ∷ events) ordered known tied at =
+      → IsAt boot about.most past kernel events → after_events boot kernel events ≡ Some last
+      → Runs notes g (noted_from boot about.members.realm kernel notes events)
+  tied_on past kernel notes g [] ordered known tied at ends =
+      let same : kernel ≡ last = cc in
+      record {
+        items = [];
+        logged = sym (append-nil notes.log);
+        then = g;
+        replies = refl;
+        more = all notes.numbering.entered;
+        within = tt;
+        end = subst (λ (k : Kernel). EndsTied about Known k notes g) same
+            (record { history = past; known = known; tied = tied });
+      }
+    where
+      all : (n : ℕ) → n ≤ n
+      all n = omega arith
+  tied_on past kernel notes g (happened ∷ events) ordered known tied at ends =
       let on = on_from boot about.most past kernel happened events at in
-      let goes = events_along boot about (length past) kernel on.next happened notes g shares key
-      (ready_at boot about past kernel g shares at.there
-      (bound_now (length past) (suc (length events)) about.most at.bound) ordered)
+      let ready = ready_at boot about past kernel g shares at.there
+      (bound_now (length past) (suc (length events)) about.most at.bound) ordered in
+      let goes = events_along boot about (length past) kernel on.next happened notes g shares key ready
       (course.comes past events kernel happened notes g known at on) on.comes tied in
       let later = stays_in_order.runs about.most about.members.app g goes.then (events_in goes.items)
       (replies_in goes.items) ordered goes.replies in
       let noted : Notes = event_noted boot about.members.realm kernel on.next notes happened in
+      let onward : after_events boot on.next events ≡ Some last =
+      sym (ap (λ (o : Option Kernel). option_and_then (λ (next : Kernel). after_events boot next events) o) on.comes) ∙ ends in
       let rest = tied_on (past ++ happened ∷ []) on.next noted goes.then events later
-      (course.stays past events kernel happened notes g known at on goes) goes.tied on.at in
-      subst (RunsAlong about.most about.members.app notes g)
-      (sym (goes_from boot about.members.realm kernel on.next notes happened events on.comes))
-      (runs_on about.most about.members.app notes noted
-      (noted_from boot about.members.realm on.next noted events) g goes.then goes.items goes.noted goes.replies rest)
+      (course.stays past events kernel happened notes g known at on goes) goes.tied on.at onward in
+      let after : Notes = noted_from boot about.members.realm on.next noted events in
+      subst (Runs notes g) (sym (goes_from boot about.members.realm kernel on.next notes happened events on.comes))
+      (runs_on about.most about.members.app (EndsTied about Known last) notes noted after g goes.then goes.items goes.noted
+      goes.replies (entered_grows boot about.members.realm kernel on.next notes happened on.comes)
+      (λ more. items_within about (length past) kernel notes g ready tied after.numbering.entered
+      (subst (λ n. n ≤ after.numbering.entered) tied.tied.entered more) boot about.members.realm on.next happened goes.items
+      goes.noted) rest)

@@ -30,10 +30,11 @@ pub mod MadeCalls
 pub mod OwnEntries
 pub mod Ready
 pub mod TiedEvents
+pub mod NotesStay
+pub mod Within
 pub mod Along
 pub mod AllAnswered
 pub mod OpenRuns
-pub mod NotesStay
 pub mod EarlyCalls
 pub mod Openings
 pub mod EarlyEvents

@@ -30,17 +30,19 @@ use Rattle.own_model.proofs.WholeHistories.{IsAt, IsOn, from_first, uuid_on}
 use Rattle.own_model.proofs.WholeHistories as own_histories
 use Rattle.own_model.specs.Isolation.{IsSessionOf, steps_in}
 use Rattle.own_model.specs.Own as own
+use Rattle.own_model.specs.Tied.{call_at}
 use Rattle.own_model.specs.declared.own_event.OwnEvent.{OwnEvent}
 use Rattle.group_model.proofs.InOrder.{stays_in_order}
 use Rattle.group_model.specs.Group.{Group, group_machine_replies, nobody_there, run}
 use Rattle.group_model.specs.Tied.{HomesAlike}
 use Rattle.group_model.specs.declared.group_event.GroupEvent.{GroupEvent}
+use Rattle.realm_model.specs.Histories.{AllWithin}
 use Rattle.realm_model.specs.Laws.{About, AreTied, ComesAs, GoesAlong, events_in, replies_in}
-use Rattle.realm_model.specs.Reading.{Logged, Notes, event_noted, event_of, no_notes, realm_events, realm_replies}
+use Rattle.realm_model.specs.Reading.{Logged, Notes, event_noted, event_of, no_notes, noted, realm_events, realm_replies}
 use Rattle.realm_model.specs.Reading as reading
 use Rattle.realm_model.specs.Realm.{OneSession, Realm, number_in}
 use Rattle.realm_model.specs.Forgetting.{own_part}
-use Rattle.realm_model.proofs.Along.{Course, Ended, tied_on}
+use Rattle.realm_model.proofs.Along.{Course, Ended, EndsTied, RunsAlong, tied_on}
 use Rattle.realm_model.proofs.Boots.{boots_tied}
 use Rattle.realm_model.proofs.EarlyCalls.{Another, Coming, ItWaits, ItsOpen, early_call}
 use Rattle.realm_model.proofs.EarlyEvents.{EarlyNext, IsFirstCall, NowNameless, NowOpen, StillEarly, early_next, open_uuid}
@@ -91,16 +93,16 @@ pub record IsEarly (member : ℕ) (kernel : Kernel) (notes : Notes) : Type 0 whe
   pub lower : kernel.tables.next_session ≤ member
 
 -- and behind it
-record IsOpened (member : ℕ) (kernel : Kernel) (notes : Notes) : Type 0 where
-  named : get notes.sessions member ≡ Some 0
-  given : member < kernel.tables.next_session
+pub record IsOpened (member : ℕ) (kernel : Kernel) (notes : Notes) : Type 0 where
+  pub named : get notes.sessions member ≡ Some 0
+  pub given : member < kernel.tables.next_session
 
 -- and that in the end it is of the application; of its sessions no more have come than calls
-record Known (boot : Booted) (member : ℕ) (app : Application) (past events : List Event) (kernel : Kernel) (notes : Notes)
+pub record Known (boot : Booted) (member : ℕ) (app : Application) (past events : List Event) (kernel : Kernel) (notes : Notes)
     (g : Group) : Type 0 where
-  final : option_and_then (app_of boot) (own.noted_from boot member kernel (own_part notes) events).uuid ≡ Some app
-  state : IsEarly member kernel notes ⊎ IsOpened member kernel notes
-  few : notes.next_session ≤ notes.numbering.entered
+  pub final : option_and_then (app_of boot) (own.noted_from boot member kernel (own_part notes) events).uuid ≡ Some app
+  pub state : IsEarly member kernel notes ⊎ IsOpened member kernel notes
+  pub few : notes.next_session ≤ notes.numbering.entered
 
 no_less : (n : ℕ) → n ≤ 0 → n ≡ 0
 no_less n le = omega arith
@@ -112,7 +114,7 @@ none_yet member kernel notes early few =
     no_less notes.next_session
     (subst (λ n. notes.next_session ≤ n) (ap (λ (n : own.Notes). n.numbering.entered) early.nothing) few)
 
-abbrev about_one : List Event → Booted → ℕ → Application → About
+abbrev pub about_one : List Event → Booted → ℕ → Application → About
 about_one history boot member app =
     record { members = record { realm = OneSession member; app = app }; most = steps_in history; key = boot.key }
 
@@ -400,25 +402,84 @@ from_one boot history zero app s at =
     let no : None ≡ Some app = ap (λ (u : Option (List ℕ)). option_and_then (app_of boot) u) (sym none) ∙ s.of_app in
     absurd cc
 
+-- the machine runs along with a whole history
+abbrev pub RunsOne : Booted → List Event → ℕ → Application → Kernel → Type 0
+RunsOne boot history member app last =
+    RunsAlong (steps_in history) app (EndsTied (about_one history boot member app) (Known boot member app) last) no_notes
+    (nobody_there boot.key) (noted boot history (OneSession member))
+
+pub one_runs : (boot : Booted) (history : List Event) (member : ℕ) (app : Application) (last : Kernel)
+    → IsSessionOf boot history member app → kernel_after boot history ≡ Some last → RunsOne boot history member app last
+one_runs boot history member app last s there =
+    let about : About = about_one history boot member app in
+    let at = from_first boot history last there in
+    let of_boot : app_of boot (uuid_of app) ≡ Some app =
+    option_and_then_some (app_of boot) (own.noted boot history member).uuid app s.of_app
+    (λ uuid there is. ap (λ (u : List ℕ). app_of boot u) (app_named boot uuid app is) ∙ is) in
+    tied_on boot about (Known boot member app) (one_course boot member app history)
+    (record { of_boot = of_boot; shares = s.shares_none }) refl last [] (first_kernel boot) no_notes (nobody_there boot.key)
+    history (stays_in_order.first boot.key)
+    (record {
+      final = s.of_app;
+      state = inl (record { nothing = refl; lower = from_one boot history member app s at });
+      few = omega arith;
+    }) (boots_tied boot about) at there
+
 pub one_answered : (boot : Booted) (history : List Event) (member : ℕ) (app : Application)
     → IsSessionOf boot history member app
     → group_machine_replies (steps_in history) app boot.key (realm_events boot history (OneSession member))
     ≡ Some (realm_replies boot history (OneSession member))
 one_answered boot history member app s =
-    let about : About = about_one history boot member app in
     let last = some_of (kernel_after boot history) s.legal.follows in
-    let at = from_first boot history last.0 last.1 in
-    let of_boot : app_of boot (uuid_of app) ≡ Some app =
-    option_and_then_some (app_of boot) (own.noted boot history member).uuid app s.of_app
-    (λ uuid there is. ap (λ (u : List ℕ). app_of boot u) (app_named boot uuid app is) ∙ is) in
-    let runs = tied_on boot about (Known boot member app) (one_course boot member app history)
-    (record { of_boot = of_boot; shares = s.shares_none }) refl [] (first_kernel boot) no_notes (nobody_there boot.key) history
-    (stays_in_order.first boot.key)
-    (record {
-      final = s.of_app;
-      state = inl (record { nothing = refl; lower = from_one boot history member app s at });
-      few = omega arith;
-    }) (boots_tied boot about) at in
+    let runs = one_runs boot history member app last.0 s last.1 in
     ap (λ (o : Option Ended). option_map (λ (end : Ended). end.1) o)
     (ap (λ (log : List Logged). run (steps_in history) app (nobody_there boot.key) (events_in log)) runs.logged
     ∙ runs.replies ∙ ap (λ (log : List Logged). Some (runs.then, replies_in log)) (sym runs.logged))
+
+pub one_within : (boot : Booted) (history : List Event) (member : ℕ) (app : Application)
+    → IsSessionOf boot history member app
+    → AllWithin (noted boot history (OneSession member)).numbering.entered (steps_in history) app (nobody_there boot.key)
+    (realm_events boot history (OneSession member))
+one_within boot history member app s =
+    let last = some_of (kernel_after boot history) s.legal.follows in
+    let runs = one_runs boot history member app last.0 s last.1 in
+    subst (λ (log : List Logged). AllWithin (noted boot history (OneSession member)).numbering.entered (steps_in history) app
+    (nobody_there boot.key) (events_in log)) (sym runs.logged) runs.within
+
+-- ---- at the end
+
+-- its open has come in: the session has its number, and each of its calls in the slots has one
+pub record IsThere (boot : Booted) (history : List Event) (member : ℕ) (last : Kernel) : Type 0 where
+  pub given : member < last.tables.next_session
+  pub numbered : (slot : ℕ) (call : PendingCall) → call_at last.slots slot ≡ Some call → call.session ≡ member →
+      (number : ℕ) × (get (noted boot history (OneSession member)).numbering.in_slots slot ≡ Some number)
+
+pub one_there : (boot : Booted) (history : List Event) (member : ℕ) (app : Application) (last : Kernel)
+    → IsSessionOf boot history member app → kernel_after boot history ≡ Some last → IsThere boot history member last
+one_there boot history member app last s there = by_state runs.end.known.state
+  where
+    runs : RunsOne boot history member app last
+    runs = one_runs boot history member app last s there
+
+    by_number : (slot : ℕ) (call : PendingCall) (found : Option ℕ)
+        → get (noted boot history (OneSession member)).numbering.in_slots slot ≡ found → call_at last.slots slot ≡ Some call
+        → call.session ≡ member → get (noted boot history (OneSession member)).sessions member ≡ Some 0
+        → (number : ℕ) × (get (noted boot history (OneSession member)).numbering.in_slots slot ≡ Some number)
+    by_number slot call (Some number) has held of_it named = (number, has)
+    by_number slot call None none held of_it named =
+        let other = runs.end.tied.tied.others slot call held none in
+        let no : None ≡ Some 0 =
+        sym other.session ∙ ap (λ n. get (noted boot history (OneSession member)).sessions n) of_it ∙ named in
+        absurd cc
+
+    by_state : IsEarly member last (noted boot history (OneSession member))
+        ⊎ IsOpened member last (noted boot history (OneSession member)) → IsThere boot history member last
+    by_state (inl early) =
+        let no : None ≡ Some app =
+        ap (λ (n : own.Notes). option_and_then (app_of boot) n.uuid) (sym early.nothing) ∙ runs.end.known.final in
+        absurd cc
+    by_state (inr opened) = record {
+      given = opened.given;
+      numbered = λ slot call held of_it.
+          by_number slot call (get (noted boot history (OneSession member)).numbering.in_slots slot) refl held of_it opened.named;
+    }

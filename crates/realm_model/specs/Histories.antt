@@ -1,6 +1,7 @@
 -- Isolation of realms: whatever else happens in a legal history, the machine of a realm, which has the realm's events alone,
 -- answers as the realm was answered. This project's own.
-use Rattle.std.specs.Prelude.{◌≡◌, ℕ, ◌*◌, ◌≤◌, ◌++◌, IsSome, List, Some, filter_map, map, slice_get, take}
+use Rattle.std.specs.Prelude.{◌≡◌, ℕ, ◌*◌, ◌≤◌, ◌++◌, IsSome, List, [], ◌∷◌, Some, filter_map, map, slice_get, take}
+use Rattle.base.specs.NumberMap.{get}
 use Rattle.event_journal.specs.declared.event.Event.{Event}
 use Rattle.event_journal.specs.declared.event.Event.TheVariants.{Entry}
 use Rattle.ns_ram.specs.declared.read.Read.{Read}
@@ -8,15 +9,16 @@ use Rattle.smc_abi.specs.declared.regs.Regs.{Regs}
 use Rattle.kernel_model.specs.Application.{Application, Booted}
 use Rattle.kernel_model.specs.Argument.{IsNew}
 use Rattle.kernel_model.specs.History.{IsLegal, kernel_after}
-use Rattle.kernel_model.specs.Kernel.{Active, InSlot, Inside, Kernel, PendingCall}
+use Rattle.kernel_model.specs.Kernel.{Active, Asks, CallPhase, Ends, InSlot, Inside, Kernel, PendingCall, Runs, Waits}
 use Rattle.kernel_model.specs.Sound.{AreGranted}
 use Rattle.own_model.specs.Isolation.{IsSessionOf, steps_in}
-use Rattle.group_model.specs.Group.{Group, group_machine_replies}
+use Rattle.group_model.specs.Group.{Answered, Group, GroupCall, group_machine_replies, nobody_there, step}
 use Rattle.group_model.specs.InOrder.{IsInOrder}
 use Rattle.group_model.specs.Isolation.{IsGroupOf}
 use Rattle.group_model.specs.Laws.{IsSound}
 use Rattle.group_model.specs.OneLaw.{IsKept}
 use Rattle.group_model.specs.declared.group_event.GroupEvent.{GroupEvent}
+use Rattle.group_model.specs.declared.group_event.GroupEvent.TheVariants.{Open, Invoke, Close, Cancel, Seen, Room, Back, Out}
 use Rattle.group_model.specs.declared.group_reply.GroupReply.{GroupReply}
 use Rattle.realm_model.specs.Realm.{AllSessions, OneSession, Realm}
 use Rattle.realm_model.specs.Reading.{Logged, Notes, RealmEvent, event_of, noted, number_of, realm_events, realm_replies}
@@ -61,6 +63,44 @@ AnsweredAsARealm = (boot : Booted) (history : List Event) (realm : Realm) (app :
     IsRealmOf boot history realm app →
     group_machine_replies (steps_in history) app boot.key (realm_events boot history realm)
     ≡ Some (realm_replies boot history realm)
+
+-- ---- what its machine has room for
+
+-- a call whose job runs has done no more steps
+abbrev pub DidAtMost : ℕ → ℕ → CallPhase → Type 0
+DidAtMost most done_by_now (Runs job) = done_by_now ≤ most
+DidAtMost most done_by_now (Asks job wanted payload) = Unit {0}
+DidAtMost most done_by_now (Waits params) = Unit {0}
+DidAtMost most done_by_now (Ends result params told wakes) = Unit {0}
+
+-- a call that comes in finds that no more have come, and one that goes out has done no more steps
+abbrev pub IsWithin : (calls most : ℕ) → Group → GroupEvent → Type 0
+IsWithin calls most g (Open input login limited area) = g.entered ≤ calls
+IsWithin calls most g (Invoke session func input area) = g.entered ≤ calls
+IsWithin calls most g (Close session area) = g.entered ≤ calls
+IsWithin calls most g (Cancel session) = g.entered ≤ calls
+IsWithin calls most g (Seen number done_by_now) = Unit {0}
+IsWithin calls most g (Room number enough) = Unit {0}
+IsWithin calls most g (Back number input) = Unit {0}
+IsWithin calls most g (Out number) =
+    (call : GroupCall) → get g.calls number ≡ Some call → DidAtMost most call.steps call.phase
+
+-- each of these events, when those before it have come
+abbrev pub AllWithin : (calls most : ℕ) → Application → Group → List GroupEvent → Type 0
+AllWithin calls most app g [] = Unit {0}
+AllWithin calls most app g (came ∷ events) =
+    IsWithin calls most g came
+    × ((answered : Answered) → step most app g came ≡ Some answered → AllWithin calls most app answered.0 events)
+
+-- so its machine has taken no more calls than were noted in the end, at each event, and a call of it has done no more steps than
+-- were granted in all
+abbrev pub RealmsStayWithin : Type 0
+RealmsStayWithin = (boot : Booted) (history : List Event) (realm : Realm) (app : Application) →
+    IsRealmOf boot history realm app →
+    AllWithin (noted boot history realm).numbering.entered (steps_in history) app (nobody_there boot.key)
+    (realm_events boot history realm)
+
+-- ---- two worlds
 
 -- so in two worlds: after any two legal histories, of any two boots that have the same key, realms of one application to which
 -- the same has happened were answered the same

@@ -1,10 +1,17 @@
 //! What is answered to a realm in a whole history.
-ghost use Rattle.realm_model.specs.Histories.{AnsweredAsARealm, KeptSessionsHaveRealms, SameRealmBeginningsSameReplies, SameRealmEventsSameReplies};
+ghost use Rattle.realm_model.specs.Histories.{AnsweredAsARealm, KeptSessionsHaveRealms, RealmsStayWithin};
+ghost use Rattle.realm_model.specs.Histories.{SameRealmBeginningsSameReplies, SameRealmEventsSameReplies};
 
 /// The machine of a realm, which has the realm's events alone, answers as the realm was answered, whatever else happens: one
 /// session of an application whose sessions share no instance, and all sessions of one whose sessions share one.
 pub fn realms_are_answered()
     ensures { AnsweredAsARealm }
+{}
+
+/// It answers within bounds: at each event it has taken no more calls than have come in by the end, and a call that goes out has
+/// done no more steps than were granted in all.
+pub fn realms_stay_within()
+    ensures { RealmsStayWithin }
 {}
 
 /// So in two worlds: realms of one application to which the same has happened were answered the same, after any two legal

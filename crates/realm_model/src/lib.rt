@@ -21,9 +21,9 @@
 //!   (`own_calls_keep_realms`), by an interrupt of a call of the realm (`interrupts_keep_realms`) and by its other exits and resumes
 //!   (`own_exits_keep_realms`, `own_resumes_keep_realms`).
 //! - In each legal history the machine of a realm, which has the realm's events alone, answers as the realm was answered
-//!   (`realms_are_answered`); so two realms of one application to which the same has happened were answered the same
-//!   (`same_events_of_realms_get_same_replies`), in the end and at each beginning
-//!   (`same_beginnings_of_realms_get_same_replies`). Each session that the kernel keeps is a member of a realm, and keeps its
+//!   (`realms_are_answered`), within bounds of calls and steps (`realms_stay_within`); so two realms of one application to
+//!   which the same has happened were answered the same (`same_events_of_realms_get_same_replies`), in the end and at each
+//!   beginning (`same_beginnings_of_realms_get_same_replies`). Each session that the kernel keeps is a member of a realm, and keeps its
 //!   number there (`kept_sessions_are_members`).
 //! - What `own_model` says of one session follows, in its own words: it is answered as its machine answers
 //!   (`sessions_are_answered_as_alone`), two to which the same has happened are answered and shown the same
@@ -49,8 +49,8 @@ pub use group_laws::{
     same_group_events_get_same_replies,
 };
 pub use histories::{
-    kept_sessions_are_members, realms_are_answered, same_beginnings_of_realms_get_same_replies,
-    same_events_of_realms_get_same_replies,
+    kept_sessions_are_members, realms_are_answered, realms_stay_within,
+    same_beginnings_of_realms_get_same_replies, same_events_of_realms_get_same_replies,
 };
 pub use one_law::{
     calls_are_in_realms, each_kept_session_has_a_realm, kept_sessions_have_realms,
