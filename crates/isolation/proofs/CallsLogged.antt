@@ -17,12 +17,12 @@ use Rattle.kernel_model.specs.SoundNumbers.{IsNumberedSession}
 use Rattle.kernel_model.proofs.Parts.{some_of}
 use Rattle.kernel_model.proofs.Past.{after_events-append}
 use Rattle.kernel_model.proofs.SoundNumbers.{numbered}
-use Rattle.own_model.proofs.CallsInLogs.{calls_in_logs}
-use Rattle.own_model.proofs.KeptSessions.{noted-append}
 use Rattle.own_model.proofs.WholeHistories.{goes_from, one_more, uuid_on}
 use Rattle.own_model.specs.Isolation.{BringsCall, IsSessionOf}
 use Rattle.own_model.specs.Own.{Logged, Notes, event_noted, no_notes, noted, noted_from}
 use Rattle.isolation.proofs.LogsGrow.{event_adds}
+use Rattle.realm_model.proofs.SessionCalls.{calls_in_logs}
+use Rattle.realm_model.proofs.SessionsKnown.{noted-append}
 
 -- what is noted later stands behind
 grows_by : (session : ℕ) (kernel next : Kernel) (notes : Notes) (event : Event)

@@ -13,11 +13,11 @@ use Rattle.kernel_model.specs.Application.{Application, Booted}
 use Rattle.kernel_model.specs.Instances.{app_of}
 use Rattle.kernel_state.specs.Setup.{application_of}
 use Rattle.kernel_state.specs.declared.setup.Application.{Application as CodeApp}
-use Rattle.own_model.proofs.WholeHistories.{answered_as_alone}
 use Rattle.own_model.specs.Isolation.{IsSessionOf, steps_in}
 use Rattle.own_model.specs.Own as own
 use Rattle.own_model.specs.Solo.{solo_replies}
 use Rattle.own_model.specs.declared.own_reply.OwnReply.{OwnReply}
+use Rattle.realm_model.proofs.AloneAnswered.{alone_answered}
 
 uuid_prop : (one other : Option (List ℕ)) → IsProp (one ≡ other)
 uuid_prop one other = Prim.hlevel props
@@ -50,6 +50,6 @@ pub alone_so : {T : Type 0} (result : Result T NoMemory) (items : T → List Own
     → IsSessionOf boot history session app → IfOk result (λ x. items x ≡ own.replies_in log)
     → IfOk result (λ x. solo_replies (steps_in history) app boot.key (own.own_events boot history session) ≡ Some (items x))
 alone_so (Ok x) items log boot history session app same is e =
-    answered_as_alone boot history session app is
+    alone_answered boot history session app is
     ∙ ap (λ (rs : List OwnReply). Some rs) (sym (e ∙ ap own.replies_in same))
 alone_so (Err error) items log boot history session app same is e = tt
