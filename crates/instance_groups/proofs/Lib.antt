@@ -4,7 +4,6 @@ pub mod CallsRead
 pub mod Decided
 pub mod Entries
 pub mod FewCalls
-pub mod FedEvents
 pub mod FedAlong
 pub mod Further
 pub mod GoneOut
