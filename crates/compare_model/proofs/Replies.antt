@@ -9,10 +9,6 @@ use Rattle.compare_model.specs.Laws.{JournalsAreAnsweredAlone, SameGivesSameRepl
 use Rattle.compare_model.specs.declared.compared.Compared.TheVariants.{Illegal, Absent, Other, Events, Same}
 use Rattle.compare_model.specs.declared.subject.Subject.{Subject}
 use Rattle.compare_model.specs.declared.subject.Subject.TheVariants.{Session, Group}
-use Rattle.group_model.proofs.InOrder.{stays_in_order}
-use Rattle.group_model.proofs.MoreSteps.{more_steps_agree}
-use Rattle.group_model.proofs.TiedEvents.{events_along}
-use Rattle.group_model.proofs.WholeHistories.{answered_as_a_group, same_replies as same_group_replies}
 use Rattle.group_model.specs.Isolation.{IsGroupOf}
 use Rattle.group_model.specs.Group.{group_machine_replies}
 use Rattle.group_model.specs.Read.{group_events, group_replies}
@@ -21,9 +17,12 @@ use Rattle.group_model.specs.declared.group_reply.GroupReply.{GroupReply}
 use Rattle.kernel_model.proofs.SoundMemory.{own_uuid}
 use Rattle.kernel_model.specs.Application.{Application}
 use Rattle.kernel_model.specs.Instances.{app_of, is_single}
-use Rattle.own_model.proofs.WholeHistories.{answered_as_alone, same_replies}
 use Rattle.own_model.specs.Isolation.{IsSessionOf, steps_in}
 use Rattle.own_model.specs.Own.{own_app}
+use Rattle.realm_model.proofs.AloneAnswered.{alone_answered}
+use Rattle.realm_model.proofs.Answered.{groups_answered}
+use Rattle.realm_model.proofs.GroupBeginnings.{same_events as same_group_replies}
+use Rattle.realm_model.proofs.SessionBeginnings.{same_events as same_replies}
 
 -- ---- applications that are there
 
@@ -95,11 +94,11 @@ group_of pair uuid journal app legal is =
 
 answered_alone : (pair : Pair) (subject : Subject) (journal : Journaled) → IsHistory pair journal → IsAnsweredAlone pair subject journal
 answered_alone pair (Session session) journal legal = λ app is.
-    answered_as_alone (core_of pair journal) journal.events session app (session_of pair session journal app legal is)
+    alone_answered (core_of pair journal) journal.events session app (session_of pair session journal app legal is)
 answered_alone pair (Group uuid) journal legal = λ app is.
     let of = group_of pair uuid journal app legal is in
     ap (λ (events : List GroupEvent). group_machine_replies (steps_in journal.events) app journal.boot.key events) of.events
-    ∙ answered_as_a_group events_along stays_in_order (core_of pair journal) journal.events app of.is_group
+    ∙ groups_answered (core_of pair journal) journal.events app of.is_group
     ∙ ap (λ (replies : List GroupReply). Some replies) (sym of.replies)
 
 pub journals_are_answered_alone : JournalsAreAnsweredAlone
@@ -120,7 +119,7 @@ same_answers pair (Group uuid) count (can, of_one, events, replies) =
     let one = group_of pair uuid pair.one of_one.app (is_history pair pair.one can.0) of_one.in_one in
     let two = group_of pair uuid pair.two of_one.app (is_history pair pair.two can.1) of_one.in_two in
     one.replies
-    ∙ same_group_replies events_along stays_in_order more_steps_agree (core_of pair pair.one) (core_of pair pair.two) pair.one.events
+    ∙ same_group_replies (core_of pair pair.one) (core_of pair pair.two) pair.one.events
     pair.two.events of_one.app of_one.keys one.is_group two.is_group (sym one.events ∙ events ∙ two.events)
     ∙ sym two.replies
 
