@@ -3,14 +3,14 @@ use Rattle.std.proofs.Common.{◌≡◌, ℕ, List, ◌++◌, Some, subst, sym}
 use Rattle.std.specs.Prelude.{IsSome}
 use Rattle.base.specs.NumberMap.{get}
 use Rattle.event_journal.specs.declared.event.Event.{Event}
-use Rattle.group_model.proofs.EachKept.{each_kept_has_a_realm}
-use Rattle.group_model.proofs.OneLaw.{answered_as_a_realm, kept_sessions_have_realms}
 use Rattle.kernel_model.specs.Application.{Booted}
 use Rattle.kernel_model.specs.History.{IsLegal, kernel_after}
 use Rattle.kernel_model.specs.Kernel.{Kernel}
 use Rattle.kernel_model.proofs.Parts.{some_of}
 use Rattle.play_model.proofs.Returns.{legal_before}
 use Rattle.play_model.specs.Realms.{HistoriesHaveRealms, KeepsRealm}
+use Rattle.realm_model.proofs.EachKept.{each_kept_has_a_realm}
+use Rattle.realm_model.proofs.OneLaw.{answered_as_a_realm, kept_sessions_have_realms}
 
 keeps_realm : (boot : Booted) (before behind : List Event) (kernel : Kernel) (session : ℕ)
     → IsLegal boot (before ++ behind) → kernel_after boot before ≡ Some kernel

@@ -22,15 +22,13 @@ use Rattle.kernel_model.proofs.Suspended.{resumes_continue}
 use Rattle.kernel_model.specs.Laws.{FindsNoCall, FindsNoSlot, visited}
 use Rattle.ns_ram.specs.declared.read.Read.{Read}
 use Rattle.own_model.proofs.FixedAnswers as fixed
-use Rattle.own_model.proofs.KeptSessions.{kept_sessions_known}
 use Rattle.own_model.proofs.OtherResumes.{visitor_there}
-use Rattle.group_model.proofs.InOrder.{stays_in_order}
-use Rattle.group_model.proofs.KeptSessions.{kept_of_group}
-use Rattle.group_model.proofs.TiedEvents.{events_along}
-use Rattle.group_model.proofs.WholeHistories.{answered_as_a_group}
 use Rattle.group_model.specs.Read.{noted}
-use Rattle.own_model.proofs.WholeHistories.{answered_as_alone}
 use Rattle.own_model.specs.Own.{own_app}
+use Rattle.realm_model.proofs.AloneAnswered.{alone_answered}
+use Rattle.realm_model.proofs.Answered.{groups_answered}
+use Rattle.realm_model.proofs.GroupMembers.{kept_of_group}
+use Rattle.realm_model.proofs.SessionsKnown.{kept_sessions_known}
 use Rattle.smc_abi.specs.Call.{call_of}
 use Rattle.smc_abi.specs.declared.call.Call.TheVariants.{Resume}
 use Rattle.play_model.specs.Laws.{AloneIn, Returned, ReturnsIn, TogetherIn, ToldIn, entered}
@@ -118,7 +116,7 @@ no_call_in boot history legal before between behind cpu steps regs told reads ke
 pub alone_in : (boot : Booted) (history : List Event) → IsLegal boot history → AloneIn boot history
 alone_in boot history legal = record {
   answered = λ session app of none.
-      answered_as_alone boot history session app (record { legal = legal; of_app = of; shares_none = none });
+      alone_answered boot history session app (record { legal = legal; of_app = of; shares_none = none });
   known = λ before behind kernel session app cut there kept.
       subst (λ (h : List Event). own_app boot h session ≡ Some app) (sym cut)
       (kept_sessions_known.stays boot before behind session app (subst (IsLegal boot) cut legal)
@@ -128,7 +126,7 @@ alone_in boot history legal = record {
 pub together_in : (boot : Booted) (history : List Event) → IsLegal boot history → TogetherIn boot history
 together_in boot history legal = record {
   answered = λ app has shares.
-      answered_as_a_group events_along stays_in_order boot history app (record { legal = legal; has = has; shares = shares });
+      groups_answered boot history app (record { legal = legal; has = has; shares = shares });
   known = λ before behind kernel session app cut there kept. kept_of_group.known boot before kernel session app there kept;
   stays = λ before behind session number app cut has shares there.
       subst (λ (h : List Event). get (noted boot h app).sessions session ≡ Some number) (sym cut)
