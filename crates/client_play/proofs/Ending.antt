@@ -26,8 +26,9 @@ use Rattle.own_model.specs.Own.{Logged, Notes, ended, exit_noted, no_notes, note
 use Rattle.own_model.specs.Own.{replies_in, reply_of, wake_kept, wake_of, with_reply}
 use Rattle.own_model.specs.Parameters.{outputs_with}
 use Rattle.own_model.specs.declared.own_event.OwnEvent.TheVariants.{Out}
-use Rattle.own_model.proofs.KeptSessions.{kept_sessions_known, noted-append}
-use Rattle.own_model.proofs.WholeHistories.{answered_as_alone, goes_from, one_more}
+use Rattle.own_model.proofs.WholeHistories.{goes_from, one_more}
+use Rattle.realm_model.proofs.AloneAnswered.{alone_answered}
+use Rattle.realm_model.proofs.SessionsKnown.{kept_sessions_known, noted-append}
 use Rattle.smc_abi.specs.declared.regs.Regs.{Regs}
 use Rattle.ta_params.specs.declared.call_result.CallResult.{CallResult}
 use Rattle.ta_params.specs.declared.copied_params.CopiedParams.{CopiedParams}
@@ -107,7 +108,7 @@ module _ (boot : Booted) (history : List Event) (session : ℕ) (told : Regs) (r
         told = result;
         outputs = outputs_with result params;
         replies = replies_after;
-        alone = answered_as_alone boot (history ++ Exit 0 told ∷ []) session app
+        alone = alone_answered boot (history ++ Exit 0 told ∷ []) session app
             (record { legal = legal; of_app = still; shares_none = alone });
         printed = refl;
         printed_outputs = outputs_told;

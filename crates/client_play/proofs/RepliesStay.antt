@@ -23,7 +23,7 @@ use Rattle.own_model.specs.Own.{wake_kept, wake_of, with_reply}
 use Rattle.own_model.specs.declared.own_event.OwnEvent.TheVariants.{Back, Limited, Out, Seen}
 use Rattle.own_model.specs.declared.own_reply.OwnReply.{OwnReply}
 use Rattle.own_model.specs.declared.own_reply.OwnReply.TheVariants as reply
-use Rattle.own_model.proofs.KeptSessions.{noted-append}
+use Rattle.realm_model.proofs.SessionsKnown.{noted-append}
 
 -- the one's log is the other's with more behind it
 abbrev Grows : Notes → Notes → Type 0

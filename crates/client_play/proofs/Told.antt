@@ -35,7 +35,7 @@ use Rattle.own_model.specs.Own.{Notes, call_noted, event_in, event_of, no_notes,
 use Rattle.own_model.specs.Tied.{call_in}
 use Rattle.own_model.specs.declared.own_event.OwnEvent.{OwnEvent}
 use Rattle.own_model.specs.declared.own_reply.OwnReply.{OwnReply}
-use Rattle.own_model.proofs.KeptSessions.{kept_sessions_known, noted-append}
+use Rattle.realm_model.proofs.SessionsKnown.{kept_sessions_known, noted-append}
 use Rattle.own_model.proofs.NewEntries.{new_call_noted}
 use Rattle.own_model.proofs.NotedCalls.{noted_is}
 use Rattle.own_model.proofs.WholeHistories.{goes_from}
@@ -133,7 +133,7 @@ module _ (boot : Booted) (boots : IsBooted boot) (n : ℕ) (session : ℕ) (app 
     ends_call : (result : CallResult) (params : CopiedParams) → leaving_of 0 o.progress.call ≡ Finishes result params
         → EndsCall boot made.between.history session told result params
     ends_call result params leaves =
-        let number = call_numbered boot made.between.history made.between.kernel session 0 app made.taken.call made.comes known alone
+        let number = call_numbered boot made.between.history made.between.kernel session 0 app made.taken.call boots made.comes known alone
         (ap (λ (held : Option ThreadSlot). option_and_then call_in held) there) (ap (λ (l : Lasting). l.session) same) in
         record {
           kernel = made.between.kernel;
@@ -475,7 +475,7 @@ module _ (boot : Booted) (boots : IsBooted boot) (n : ℕ) (at after : Standing)
       not_given : own_app boot at.history session ≡ Some app → ⊥
       not_given known =
           let same = kernel_is boot _ at.history opens.kernel at.kernel front opens.begins stands.comes in
-          let lt = session_given boot at.history at.kernel session app stands.comes known opens.shares_none in
+          let lt = session_given boot at.history at.kernel session app boots stands.comes known opens.shares_none in
           let next : session ≡ at.kernel.tables.next_session = opens.next ∙ ap (λ (k : Kernel). k.tables.next_session) same in
           omega (arith, lt, next)
 
