@@ -19,7 +19,6 @@ use Rattle.kernel_model.specs.Kernel.{Progress, Suspended, ThreadSlot, Visit, fi
 use Rattle.kernel_model.specs.Leaving.{FreesBuffer, Finishes, Interrupted, Leaving, Requests, WantsBuffer, leaving_of}
 use Rattle.ns_ram.specs.Reader.{reading}
 use Rattle.own_model.proofs.BelowNumbers.{below_numbers}
-use Rattle.own_model.proofs.EarlyEvents.{EarlyNext, NowNameless, NowOpen, NowShared, StillEarly, early_next}
 use Rattle.own_model.proofs.UuidKept.{uuid_stays}
 use Rattle.own_model.proofs.WholeHistories.{IsAt, IsOn, from_first, goes_from, on_from}
 use Rattle.own_model.specs.Isolation.{steps_in}
@@ -29,6 +28,7 @@ use Rattle.own_model.specs.Own.{out_noted, own_app, own_events, reply_of, resume
 use Rattle.own_model.specs.Own.{wake_kept, wake_of, with_reply}
 use Rattle.own_model.specs.declared.own_event.OwnEvent.{OwnEvent}
 use Rattle.own_model.specs.declared.own_event.OwnEvent.TheVariants.{Open, Invoke, Close, Cancel, Seen, Back, Out, Limited}
+use Rattle.realm_model.proofs.EarlyEvents.{EarlyNext, NowNameless, NowOpen, StillEarly, early_next}
 use Rattle.ta_params.specs.declared.copied_params.CopiedParams.{CopiedParams}
 use Rattle.ta_params.specs.declared.login.Login.{Login}
 
@@ -200,25 +200,20 @@ early_on boot session most past kernel (happened ∷ events) before at =
     let below = below_numbers kernel (numbered boot past kernel at.there) in
     subst (IsSettled boot) (sym (goes_from boot session kernel on.next no_notes happened events on.comes))
     (by_next on (event_noted session kernel on.next no_notes happened)
-    (early_next boot session most kernel on.next happened below before on.comes)
+    (early_next boot session kernel on.next happened below before on.comes)
     (λ lower. early_on boot session most (past ++ happened ∷ []) on.next events lower on.at))
   where
     by_next : (on : IsOn boot most past kernel happened events) (now : Notes)
-        → EarlyNext boot session most kernel on.next now
+        → EarlyNext boot session on.next now
         → (on.next.tables.next_session ≤ session → IsSettled boot (noted_from boot session on.next no_notes events))
         → IsSettled boot (noted_from boot session on.next now events)
     by_next on now (StillEarly same lower) later =
         subst (λ (n : Notes). IsSettled boot (noted_from boot session on.next n events)) (sym same) (later lower)
-    by_next on now (NowNameless of higher same of_boot shares has) later =
-        late_on boot session most (past ++ happened ∷ []) on.next now events higher on.at
+    by_next on now (NowNameless of given of_boot shares same opening) later =
+        late_on boot session most (past ++ happened ∷ []) on.next now events given on.at
         (inl (subst (λ (n : Notes). NoOpens n.log) (sym same) tt))
-    by_next on now (NowShared of higher of_boot uuid shares has) later =
-        late_on boot session most (past ++ happened ∷ []) on.next now events higher on.at
-        (of_named boot now of _ uuid of_boot)
-    by_next on now (NowOpen of is_next of_boot uuid alone along has) later =
-        let higher : session < on.next.tables.next_session =
-        subst (λ n. n < on.next.tables.next_session) (sym is_next) along.tied.given.session_given in
-        late_on boot session most (past ++ happened ∷ []) on.next now events higher on.at
+    by_next on now (NowOpen of given of_boot uuid opening first) later =
+        late_on boot session most (past ++ happened ∷ []) on.next now events given on.at
         (of_named boot now of _ uuid of_boot)
 
 -- where the first session has the number 1
