@@ -11,10 +11,11 @@ use Rattle.kernel_model.specs.Instances.{is_single}
 use Rattle.kernel_model.specs.Kernel.{Kernel, PendingCall}
 use Rattle.kernel_model.specs.RpcExamples.{two_waits}
 use Rattle.kernel_model.specs.AreaExamples.{area_call, area_call_of, invokes_in, named_call, named_call_of, with_page}
-use Rattle.kernel_model.specs.Worked.{Move, Comes, Leaves, boot, boot_native, add, panic, wait, wait_unmasked}
-use Rattle.kernel_model.specs.Worked.{create_fails, open_fails, open_panics, adds, argument, head, param, invokes}
+use Rattle.kernel_model.specs.Worked.{Move, Comes, Leaves, boot, boot_native, add, panic, store, wait, wait_unmasked}
+use Rattle.kernel_model.specs.Worked.{create_fails, open_fails, open_panics, adds, argument, head, names, param, invokes}
 use Rattle.kernel_model.specs.SoundCalls.{is_over}
 use Rattle.kernel_model.specs.Worked.{invokes_by, cancels, closes, call, call_of, offer, opens, open_argument, resume, history_of}
+use Rattle.ns_ram.specs.declared.read.Read.{Read}
 use Rattle.rpc_msgs.specs.Answer.{nothing_read}
 use Rattle.rpc_msgs.specs.declared.rpc.Rpc.TheVariants.{Suspend}
 use Rattle.ta_params.specs.declared.copied_params.CopiedParams.{CopiedParams}
@@ -115,6 +116,10 @@ abbrev pub woken_replies : List OwnReply
 woken_replies =
     ended 0 4 ∷ reply.Alloc ∷ reply.Alloc ∷ reply.Sleep ∷ reply.Sleep ∷ reply.Alloc ∷ reply.Wake 2
     ∷ reply.Ask (Suspend 250) [] ∷ reply.Free ∷ ended 0xffff000c 4 ∷ reply.Free ∷ ended 0 4 ∷ []
+
+-- an open that brings two numbers, to be changed
+abbrev pub opens_with_numbers : List Read
+opens_with_numbers = argument (head 0 0 0 3) (names ++ param 3 5 7 0)
 
 -- two sessions, of which the first panics
 abbrev pub one_panics : List Move
@@ -237,6 +242,9 @@ pub record Examples : Type 0 where
   pub area_replies_are : Agrees (boot 1 1 1 wait) asks_in_area 1 area_replies
   pub named_events_are : events_of (boot 1 1 1 wait) asks_in_buffer 1 ≡ Some area_events
   pub named_replies_are : Agrees (boot 1 1 1 wait) asks_in_buffer 1 area_replies
+  -- but for one that names a file, whose name has no place there: it ends OUT_OF_MEMORY where no buffer comes
+  pub file_in_area : Agrees (boot 1 1 1 store) (opens ++ area_call 0 20 (invokes 1 0) ++ resume 0 20 0) 1
+      (ended 0 4 ∷ reply.Alloc ∷ ended 0xffff000c 4 ∷ [])
   -- one that waits sleeps so
   pub sleeps_in_area : Agrees (boot 2 2 1 wait) (opens ++ call 0 9 (invokes 1 250) ++ area_call 1 9 (invokes 1 250)) 1
       (ended 0 4 ∷ reply.Alloc ∷ reply.Sleep ∷ [])
@@ -270,6 +278,10 @@ pub record Examples : Type 0 where
   pub built_in : Agrees (boot_native 1 1 1 7) (opens ++ opens ++ call 0 1 (invokes 1 5) ++ call 0 1 (closes 1)
       ++ call 0 1 (invokes 2 5)) 1
       (ended 0 3 ∷ ended 7 4 ∷ ended 0 3 ∷ [])
+  -- the open of one that is built in is answered by the TEE, so that the numbers which it brings aren't written back
+  pub built_in_open_events : events_of (boot_native 1 1 1 7) (call 0 1 opens_with_numbers) 1
+      ≡ Some (Open (numbers 5 7) nobody false ∷ Out 0 ∷ [])
+  pub built_in_open : Agrees (boot_native 1 1 1 7) (call 0 1 opens_with_numbers) 1 (ended 0 3 ∷ [])
   -- a fault of copying
   pub faulty : events_of (boot 1 1 1 add) (opens ++ call 0 9 (argument (head 1 0 1 1) (param 9 0x40002000 65537 0))) 1
       ≡ Some (opened ∷ Out 0 ∷ Invoke 0 Faulty false ∷ Out 1 ∷ [])

@@ -33,6 +33,7 @@ returns c = record {
   area_replies_are = (refl, refl);
   named_events_are = refl;
   named_replies_are = (refl, refl);
+  file_in_area = (refl, refl);
   sleeps_in_area = (refl, refl);
   area_cancelled = refl;
   masked_in_area_events = refl;
@@ -45,5 +46,7 @@ returns c = record {
   create_failed = (refl, refl);
   open_panicked = (refl, refl);
   built_in = (refl, refl);
+  built_in_open_events = refl;
+  built_in_open = (refl, refl);
   faulty = refl;
 }
