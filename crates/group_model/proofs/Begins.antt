@@ -1,59 +1,20 @@
 -- What a call that comes in changes on both sides, step by step: it takes a free slot, it gets an instance, and an instance
--- gets the next number. Each step leaves them tied.
-use Rattle.std.proofs.Common.{◌≡◌, ℕ, ◌+◌, ◌<◌, List, [], ◌∷◌, Option, Some, None, refl, ap, subst, sym, ◌∙◌}
-use Rattle.std.specs.Prelude.{All, IsSome, ◌==◌, if◌then◌else◌, map, slice_get, slice_set}
-use Rattle.std.specs.Option.{option_and_then, option_map, option_map_or}
+-- gets the next number.
+use Rattle.std.proofs.Common.{◌≡◌, ℕ, ◌+◌, List, [], ◌∷◌, Option, Some, None, refl, ap, subst, sym, ◌∙◌}
+use Rattle.std.specs.Prelude.{All, ◌==◌, if◌then◌else◌}
+use Rattle.std.specs.Option.{option_map}
 use Rattle.std.proofs.lemmas.Bool.Decides.{Decides-eqb}
 use Rattle.std.proofs.lemmas.List.Elements.{All-cons, All-head, All-nil, All-tail}
-use Rattle.base.specs.NumberMap.{NumberMap, IsRising, get, insert}
-use Rattle.base.proofs.MapLemmas.{All-get, All-insert, none_above}
-use Rattle.job_model.specs.declared.call_kind.CallKind.{CallKind}
-use Rattle.job_model.specs.declared.call_kind.CallKind.TheVariants as kind
-use Rattle.session_table.specs.declared.session.Session.{Session}
-use Rattle.session_table.specs.declared.waiters.Waiter.{Waiter}
-use Rattle.shm_registry.specs.Registered.{Registered}
-use Rattle.kernel_model.specs.Application.{Application, uuid_of}
-use Rattle.kernel_model.specs.Begin.{with_instance}
-use Rattle.kernel_model.specs.Kernel.{Active, Cancel, Free, Instance, PendingCall, Tables, ThreadSlot, cancelled_slots}
+use Rattle.base.specs.NumberMap.{NumberMap, insert}
+use Rattle.kernel_model.specs.Kernel.{Cancel, Instance, PendingCall, Tables, ThreadSlot, cancelled_slots}
 use Rattle.kernel_model.specs.Sound.{unmarked}
-use Rattle.kernel_model.proofs.Parts.{set_other}
-use Rattle.kernel_model.proofs.SoundRising.{all_got}
-use Rattle.own_model.proofs.BelowNumbers.{AreBelow, IsBelow}
 use Rattle.own_model.proofs.Lookups.{apart_numbers}
-use Rattle.own_model.proofs.Maps.{get-insert-other, get-insert-same, get-inserted}
-use Rattle.own_model.proofs.OtherCalls.{less}
 use Rattle.own_model.proofs.OtherEntries.{cancels_mark}
 use Rattle.own_model.proofs.Others.{there_but_marked}
-use Rattle.own_model.specs.Own.{Numbering, next_in}
-use Rattle.own_model.specs.Tied.{FoundAlike, InstancesAlike, call_at, call_in}
-use Rattle.group_model.specs.Group.{Group, GroupCall, GroupSession, GroupWaiter, comes_in}
-use Rattle.group_model.specs.Group as machine
-use Rattle.group_model.specs.Line.{AreKept, AreNames, AreTiedCalls}
-use Rattle.group_model.specs.Tied.{AreOthers, AreTiedSessions, CallsAlike, HomesAlike}
-use Rattle.group_model.specs.Tied.{IsOfGroup, IsOther, IsTold, Names, SessionsFoundAlike, Tied, found_at}
-use Rattle.group_model.specs.Tied.{waiting_of}
-use Rattle.group_model.proofs.Alike.{either}
-use Rattle.group_model.proofs.GrownNames.{name_stays, names_grow}
-use Rattle.group_model.proofs.Lines.{calls_taken, calls_weaker, kept_taken, slots_with}
-use Rattle.group_model.proofs.Waits.{instances_stay, same_marked, waiters_stay, with_next}
-
--- whatever is registered, they are tied
-pub registered_else : (app : Application) (names : Names) (slots : List ThreadSlot) (tables : Tables) (g : Group)
-    (registered : Registered) → Tied app names slots tables g
-    → Tied app names slots (record tables { registered = registered }) g
-registered_else app names slots tables g registered tied = record {
-  sessions = tied.sessions;
-  instances = tied.instances;
-  calls = tied.calls;
-  waiters = tied.waiters;
-  kept = tied.kept;
-  others = tied.others;
-  entered = tied.entered;
-  next_session = tied.next_session;
-  session_names = tied.session_names;
-  instance_names = tied.instance_names;
-  key = tied.key;
-}
+use Rattle.own_model.specs.Tied.{call_at}
+use Rattle.group_model.specs.Group.{Group}
+use Rattle.group_model.specs.Tied.{AreOthers}
+use Rattle.group_model.specs.Tied.{IsOther, Names, found_at}
 
 -- ---- a call takes a free slot
 
@@ -74,48 +35,6 @@ others_marked sessions instances in_slots slots cancels others at now found none
     (sym (cancels_mark slots cancels at) ∙ ap (λ (o : Option PendingCall). option_map unmarked o) found) in
     other_marked sessions instances was.0 now was.2 (others at was.0 was.1 none)
 
--- so does a call that takes a slot and a number
-others_taken : (sessions instances : NumberMap ℕ) (numbering : Numbering) (slots : List ThreadSlot) (slot : ℕ)
-    (held : ThreadSlot) → AreOthers sessions instances numbering.in_slots slots
-    → AreOthers sessions instances (next_in numbering slot).in_slots (slice_set slots slot held)
-others_taken sessions instances numbering slots slot held others at now found none =
-    others at now
-    (sym (ap (λ (o : Option ThreadSlot). option_and_then call_in o) (set_other slots slot at held apart)) ∙ found)
-    (sym (get-insert-other numbering.in_slots slot numbering.entered at apart) ∙ none)
-  where
-    apart : slot ≡ at → ⊥
-    apart same =
-        let no : Some numbering.entered ≡ None =
-        sym (get-insert-same numbering.in_slots slot numbering.entered)
-        ∙ ap (λ n. get (insert numbering.in_slots slot numbering.entered) n) same ∙ none in absurd cc
-
-pub call_comes : (app : Application) (names : Names) (slots : List ThreadSlot) (tables : Tables) (g : Group)
-    (cancels : Option Cancel) (slot cpu : ℕ) (call : PendingCall) (own : GroupCall) → slice_get slots slot ≡ Some Free
-    → get names.numbering.in_slots slot ≡ None
-    → ((kept : Option ℕ) → CallsAlike names.sessions names.instances kept call own) → Tied app names slots tables g
-    → Tied app (with_next names slot) (slots_with slots cancels slot cpu call) tables (comes_in g own)
-call_comes app names slots tables g cancels slot cpu call own free none alike tied = record {
-  sessions = tied.sessions;
-  instances = instances_stay app names.instances names.numbering slot tables.instances g.instance none tied.instances;
-  calls = subst (λ (n : ℕ). AreTiedCalls (CallsAlike names.sessions names.instances) (next_in names.numbering slot)
-      (slots_with slots cancels slot cpu call) (insert g.calls n own)) tied.entered
-      (calls_taken GroupCall (CallsAlike names.sessions names.instances) names.numbering slots cancels slot cpu g.calls
-      call own (same_marked names.sessions names.instances)
-      (record { free = free; none = none; alike = alike }) tied.calls);
-  waiters = waiters_stay app names.instances names.numbering slot tables.waiters g.waiting none tied.waiters;
-  kept = subst (λ (n : ℕ). AreKept IsTold (next_in names.numbering slot) (insert g.calls n own)) tied.entered
-      (kept_taken GroupCall (CallsAlike names.sessions names.instances) IsTold names.numbering slots slot g.calls own none
-      tied.calls tied.kept);
-  others = others_taken names.sessions names.instances names.numbering (cancelled_slots slots cancels) slot
-      (Active cpu call)
-      (others_marked names.sessions names.instances names.numbering.in_slots slots cancels tied.others);
-  entered = ap (λ (n : ℕ). n + 1) tied.entered;
-  next_session = tied.next_session;
-  session_names = tied.session_names;
-  instance_names = tied.instance_names;
-  key = tied.key;
-}
-
 -- ---- an instance changes, or comes
 
 abbrev pub one_there : ℕ → Instance → Option (ℕ × Instance)
@@ -130,19 +49,6 @@ found_other number other instance apart =
     ap (λ b. if b then Some instance else None)
     (apart_numbers number other (λ same. apart (sym same)) (number == other) refl)
 
-found_alike : (in_slots : NumberMap ℕ) (a b : Option Instance) (c d : Option Instance) → a ≡ b → c ≡ d
-    → FoundAlike in_slots b d → FoundAlike in_slots a c
-found_alike in_slots a b c d first second alike =
-    subst (λ (o : Option Instance). FoundAlike in_slots o c) (sym first)
-    (subst (λ (o : Option Instance). FoundAlike in_slots b o) (sym second) alike)
-
-same_some : (a b : ℕ) → Some a ≡ Some b → a ≡ b
-same_some a b e = cc
-
-of_one : (app : Application) (names : NumberMap ℕ) (number own : ℕ) (uuid : List ℕ) → get names number ≡ Some own
-    → uuid ≡ uuid_of app → IsOfGroup app names number uuid
-of_one app names number own uuid has is = (λ of. subst (λ (o : Option ℕ). IsSome o) (sym has) refl, λ some. is)
-
 -- the machine has none but under this number
 abbrev pub HasNoOther : Group → ℕ → Type 0
 HasNoOther g number = (other : ℕ) → (other ≡ number → ⊥) → found_at g.instance other ≡ None
@@ -155,54 +61,6 @@ no_other g number instance is other apart =
 pub nobody : (g : Group) (number : ℕ) → g.instance ≡ None → HasNoOther g number
 nobody g number is other apart = ap (λ (o : Option (ℕ × Instance)). found_at o other) is
 
--- a named instance is this from now on, on both sides
-pub instance_changes : (app : Application) (names : Names) (slots : List ThreadSlot) (tables : Tables) (g : Group)
-    (number own_number : ℕ) (kept own : Instance) → get names.instances number ≡ Some own_number
-    → kept.uuid ≡ uuid_of app → InstancesAlike names.numbering.in_slots kept own → HasNoOther g own_number
-    → Tied app names slots tables g
-    → Tied app names slots (with_instance tables number kept) (machine.with_instance g own_number own)
-instance_changes app names slots tables g number own_number kept own has uuid alike none tied = record {
-  sessions = tied.sessions;
-  instances = record {
-    alike = λ at own_at named.
-        either at number
-        (λ same.
-        let is : own_at ≡ own_number =
-        same_some own_at own_number (sym named ∙ ap (λ (n : ℕ). get names.instances n) same ∙ has) in
-        found_alike names.numbering.in_slots (get (insert tables.instances number kept) at) (Some kept)
-        (found_at (one_there own_number own) own_at) (Some own)
-        (ap (λ (n : ℕ). get (insert tables.instances number kept) n) same
-        ∙ get-insert-same tables.instances number kept)
-        (ap (λ (n : ℕ). found_at (one_there own_number own) n) is ∙ found_same own_number own) alike)
-        (λ other.
-        let apart : own_at ≡ own_number → ⊥ =
-        (λ same. other (tied.instance_names.apart at number own_number
-        (named ∙ ap (λ (n : ℕ). Some n) same) has)) in
-        found_alike names.numbering.in_slots (get (insert tables.instances number kept) at) (get tables.instances at)
-        (found_at (one_there own_number own) own_at) (found_at g.instance own_at)
-        (get-insert-other tables.instances number kept at (λ same. other (sym same)))
-        (found_other own_number own_at own apart ∙ sym (none own_at apart)) (tied.instances.alike at own_at named))
-        (at == number) refl;
-    all = λ own_at instance is.
-        let same : own_number ≡ own_at = first_same own_number own_at own instance is in
-        (number, has ∙ ap (λ (n : ℕ). Some n) same);
-    of_app = All-insert (λ (one : ℕ × Instance). IsOfGroup app names.instances one.0 one.1.uuid) tables.instances number
-        kept tied.instances.of_app (of_one app names.instances number own_number kept.uuid has uuid);
-  };
-  calls = tied.calls;
-  waiters = tied.waiters;
-  kept = tied.kept;
-  others = tied.others;
-  entered = tied.entered;
-  next_session = tied.next_session;
-  session_names = tied.session_names;
-  instance_names = tied.instance_names;
-  key = tied.key;
-}
-  where
-    first_same : (a b : ℕ) (x y : Instance) → one_there a x ≡ one_there b y → a ≡ b
-    first_same a b x y e = ap (λ (o : Option (ℕ × Instance)). option_map_or (λ (t : ℕ × Instance). t.0) o a) e
-
 -- ---- an instance gets the next number
 
 -- what holds of each by two facts
@@ -213,81 +71,6 @@ all_both P Q R both (x ∷ xs) first second =
     All-cons R x xs (both x (All-head P x xs first) (All-head Q x xs second))
     (all_both P Q R both xs (All-tail P x xs first) (All-tail Q x xs second))
 
--- what isn't the next is as it was
-of_group_still : (app : Application) (names : NumberMap ℕ) (next own_next number : ℕ) (uuid : List ℕ)
-    → (next ≡ number → ⊥) → IsOfGroup app names number uuid → IsOfGroup app (insert names next own_next) number uuid
-of_group_still app names next own_next number uuid apart of =
-    let same : get (insert names next own_next) number ≡ get names number = get-insert-other names next own_next number apart in (
-      λ is. subst (λ (o : Option ℕ). IsSome o) (sym same) (of.0 is),
-      λ some. of.1 (subst (λ (o : Option ℕ). IsSome o) same some),
-    )
-
-instances_named : (names : NumberMap ℕ) (next own_next : ℕ) (waiters : List Waiter) (waiting : List GroupWaiter)
-    → AreNames names next own_next
-    → map (λ (waiter : Waiter). get names waiter.instance) waiters ≡ map (λ (own : GroupWaiter). Some own.instance) waiting
-    → map (λ (waiter : Waiter). get (insert names next own_next) waiter.instance) waiters
-    ≡ map (λ (own : GroupWaiter). Some own.instance) waiting
-instances_named names next own_next [] [] n same = refl
-instances_named names next own_next [] (own ∷ waiting) n same = absurd cc
-instances_named names next own_next (waiter ∷ waiters) [] n same = absurd cc
-instances_named names next own_next (waiter ∷ waiters) (own ∷ waiting) n same =
-    let here : get names waiter.instance ≡ Some own.instance = cc in
-    let behind : map (λ (w : Waiter). get names w.instance) waiters
-    ≡ map (λ (o : GroupWaiter). Some o.instance) waiting = cc in
-    ap (λ o. o ∷ map (λ (w : Waiter). get (insert names next own_next) w.instance) waiters)
-    (name_stays names next own_next waiter.instance own.instance n here)
-    ∙ ap (λ os. Some own.instance ∷ os) (instances_named names next own_next waiters waiting n behind)
-
-homes_still : (sessions names : NumberMap ℕ) (next own_next : ℕ) (call : PendingCall) (own : GroupCall)
-    (call_kind : CallKind) → AreNames names next own_next → HomesAlike sessions names call own call_kind
-    → HomesAlike sessions (insert names next own_next) call own call_kind
-homes_still sessions names next own_next call own kind.Open n homes =
-    (homes.0, name_stays names next own_next call.instance own.instance n homes.1)
-homes_still sessions names next own_next call own (kind.Invoke func) n homes =
-    (homes.0, name_stays names next own_next call.instance own.instance n homes.1)
-homes_still sessions names next own_next call own kind.Close n homes =
-    (homes.0, name_stays names next own_next call.instance own.instance n homes.1)
-homes_still sessions names next own_next call own kind.Settled n homes = tt
-
-calls_still : (sessions names : NumberMap ℕ) (next own_next : ℕ) (kept : Option ℕ) (call : PendingCall) (own : GroupCall)
-    → AreNames names next own_next → CallsAlike sessions names kept call own
-    → CallsAlike sessions (insert names next own_next) kept call own
-calls_still sessions names next own_next kept call own n alike = record {
-  homes = homes_still sessions names next own_next call own call.kind n alike.homes;
-  kinds = alike.kinds;
-  seen = alike.seen;
-  areas = alike.areas;
-  buffers = alike.buffers;
-  phases = alike.phases;
-  flagged = alike.flagged;
-}
-
-sessions_still : (names instances : NumberMap ℕ) (next own_next : ℕ) (kept : NumberMap Session)
-    (own : NumberMap GroupSession) → AreNames instances next own_next
-    → ((number : ℕ) (session : Session) → get kept number ≡ Some session → session.instance < next)
-    → AreTiedSessions names instances kept own → AreTiedSessions names (insert instances next own_next) kept own
-sessions_still names instances next own_next kept own n below tied = record {
-  alike = λ number own_number has.
-      found (get kept number) (get own own_number) (tied.alike number own_number has);
-  all = tied.all;
-  others = λ number session there none.
-      get-insert-other instances next own_next session.instance (less session.instance next (below number session there))
-      ∙ tied.others number session there none;
-  rising = tied.rising;
-}
-  where
-    found : (a : Option Session) (b : Option GroupSession) → SessionsFoundAlike instances a b
-        → SessionsFoundAlike (insert instances next own_next) a b
-    found None None alike = tt
-    found (Some session) (Some own_session) alike = record {
-      login = alike.login;
-      context = alike.context;
-      opened = alike.opened;
-      instance = name_stays instances next own_next session.instance own_session.instance n alike.instance;
-    }
-    found None (Some own_session) alike = absurd alike
-    found (Some session) None alike = absurd alike
-
 -- the numbers with the next instance's
 abbrev pub with_next_instance : Names → ℕ → ℕ → Names
 with_next_instance names next own_next = record names { instances = insert names.instances next own_next }
@@ -297,67 +80,3 @@ next_given tables = record tables { next_instance = tables.next_instance + 1 }
 
 abbrev pub own_next_given : Group → Group
 own_next_given g = record g { next_instance = g.next_instance + 1 }
-
-pub instance_named : (app : Application) (names : Names) (slots : List ThreadSlot) (tables : Tables) (g : Group)
-    → 0 < tables.next_instance → AreBelow slots tables → IsRising tables.instances → g.instance ≡ None
-    → Tied app names slots tables g
-    → Tied app (with_next_instance names tables.next_instance g.next_instance) slots (next_given tables) (own_next_given g)
-instance_named app names slots tables g some below rising nobody_there tied = record {
-  sessions = sessions_still names.sessions names.instances tables.next_instance g.next_instance tables.sessions g.sessions
-      tied.instance_names
-      (λ number session there.
-      (All-get (λ (one : ℕ × Session). IsBelow tables one.0 one.1.instance) tables.sessions number session below.sessions
-      there).1) tied.sessions;
-  instances = record {
-    alike = λ at own_at has.
-        get-inserted names.instances tables.next_instance g.next_instance at own_at has
-        (λ same is.
-        found_alike names.numbering.in_slots (get tables.instances at) None (found_at g.instance own_at) None
-        (ap (λ (n : ℕ). get tables.instances n) same
-        ∙ none_above tables.instances tables.next_instance below.instances)
-        (ap (λ (o : Option (ℕ × Instance)). found_at o own_at) nobody_there) tt)
-        (λ was. tied.instances.alike at own_at was);
-    all = λ own_at instance is. absurd (no_instance own_at instance (sym nobody_there ∙ is));
-    of_app = all_got (λ (one : ℕ × Instance). IsOfGroup app (insert names.instances tables.next_instance g.next_instance)
-        one.0 one.1.uuid) tables.instances rising
-        (λ at instance there.
-        of_group_still app names.instances tables.next_instance g.next_instance at instance.uuid
-        (less at tables.next_instance (All-get (λ (one : ℕ × Instance). one.0 < tables.next_instance) tables.instances at
-        instance below.instances there))
-        (All-get (λ (one : ℕ × Instance). IsOfGroup app names.instances one.0 one.1.uuid) tables.instances at instance
-        tied.instances.of_app there));
-  };
-  calls = calls_weaker GroupCall (CallsAlike names.sessions names.instances)
-      (CallsAlike names.sessions (insert names.instances tables.next_instance g.next_instance)) names.numbering slots
-      g.calls
-      (λ kept call own alike. calls_still names.sessions names.instances tables.next_instance g.next_instance kept call
-      own tied.instance_names alike) tied.calls;
-  waiters = record {
-    calls = tied.waiters.calls;
-    instances_of = instances_named names.instances tables.next_instance g.next_instance (waiting_of app tables.waiters)
-        g.waiting tied.instance_names tied.waiters.instances_of;
-    of_app = all_both (λ (w : Waiter). IsOfGroup app names.instances w.instance w.uuid)
-        (λ (w : Waiter). w.instance < tables.next_instance)
-        (λ (w : Waiter). IsOfGroup app (insert names.instances tables.next_instance g.next_instance) w.instance w.uuid)
-        (λ w of lt.
-        of_group_still app names.instances tables.next_instance g.next_instance w.instance w.uuid
-        (less w.instance tables.next_instance lt) of)
-        tables.waiters tied.waiters.of_app below.waiters;
-  };
-  kept = tied.kept;
-  others = λ slot call found none.
-      let was = tied.others slot call found none in
-      record {
-        session = was.session;
-        instance = get-insert-other names.instances tables.next_instance g.next_instance call.instance
-            (less call.instance tables.next_instance (below.calls slot call found).1) ∙ was.instance;
-      };
-  entered = tied.entered;
-  next_session = tied.next_session;
-  session_names = tied.session_names;
-  instance_names = names_grow names.instances tables.next_instance g.next_instance some tied.instance_names;
-  key = tied.key;
-}
-  where
-    no_instance : (at : ℕ) (instance : Instance) → None ≡ one_there at instance → ⊥
-    no_instance at instance e = absurd cc

@@ -1,51 +1,35 @@
--- What the end of a call makes of the group's sessions and of their instance is what the machine makes of its own.
-use Rattle.std.proofs.Common.{◌≡◌, ℕ, Bool, true, false, not, List, Option, Some, None, refl, ap, subst, sym, ◌∙◌}
-use Rattle.std.specs.Prelude.{◌==◌, ◌&&◌, ◌||◌, if◌then◌else◌}
+-- What the end of a call makes of the sessions is what the machine makes of its own.
+use Rattle.std.proofs.Common.{◌≡◌, ℕ, Bool, true, false, Option, Some, None, refl, ap, subst, sym, ◌∙◌}
+use Rattle.std.specs.Prelude.{◌==◌, if◌then◌else◌}
 use Rattle.std.specs.Option.{option_map_or}
 use Rattle.std.proofs.lemmas.Bool.Decides.{Decides-eqb}
 use Rattle.base.specs.NumberMap.{NumberMap, IsRising, IsRising-insert, IsRising-remove, get, insert, remove}
-use Rattle.base.proofs.MapLemmas.{All-get, All-insert, All-remove}
 use Rattle.job_model.specs.declared.call_kind.CallKind.{CallKind}
 use Rattle.job_model.specs.declared.call_kind.CallKind.TheVariants as kind
 use Rattle.job_model.specs.Steps.{End}
 use Rattle.session_table.specs.declared.session.Session.{Session}
 use Rattle.session_table.specs.Session.{opened_with}
 use Rattle.session_table.specs.Sessions.{settled}
-use Rattle.kernel_model.specs.Application.{Application}
 use Rattle.kernel_model.specs.Codes.{success}
-use Rattle.kernel_model.specs.Exit.{gives_back}
-use Rattle.kernel_model.specs.Instances.{instances_after}
-use Rattle.kernel_model.specs.Kernel.{Instance, PendingCall, Tables, ThreadSlot}
-use Rattle.kernel_model.specs.Sessions.{has_opened, sessions_after, sessions_after_panic, sessions_unrun}
+use Rattle.kernel_model.specs.Kernel.{Instance, PendingCall}
+use Rattle.kernel_model.specs.Sessions.{sessions_after, sessions_after_panic, sessions_unrun}
 use Rattle.own_model.proofs.InOrder.{by_numbers}
-use Rattle.own_model.proofs.Maps.{get-insert-other, get-insert-same, get-inserted, get-remove-other, get-remove-same}
-use Rattle.own_model.proofs.OwnEnds.{ChangesAlike}
-use Rattle.own_model.specs.Tied.{FoundAlike, InstancesAlike}
-use Rattle.group_model.specs.Group.{Group, GroupCall, GroupSession, instance_back}
+use Rattle.own_model.proofs.Maps.{get-insert-other, get-insert-same, get-inserted}
+use Rattle.own_model.specs.Tied.{FoundAlike}
+use Rattle.group_model.specs.Group.{GroupCall, GroupSession}
 use Rattle.group_model.specs.Group as machine
-use Rattle.group_model.specs.Tied.{AreTiedInstances, AreTiedSessions, HomesAlike, IsOfGroup, Names, SessionsAlike}
-use Rattle.group_model.specs.Tied.{SessionsFoundAlike, Tied, found_at}
-use Rattle.group_model.proofs.Alike.{AreApart, opened_same, sessions_removed}
-use Rattle.group_model.proofs.CallChanges.{tables_change}
+use Rattle.group_model.specs.Tied.{AreTiedSessions, HomesAlike, SessionsAlike}
+use Rattle.group_model.specs.Tied.{SessionsFoundAlike, found_at}
+use Rattle.group_model.proofs.Alike.{AreApart, sessions_removed}
 
 same_some : (a b : ℕ) → Some a ≡ Some b → a ≡ b
 same_some a b e = cc
-
-same_pair : (a b : ℕ × Instance) → Some a ≡ Some b → a ≡ b
-same_pair a b e = cc
 
 abbrev there_is : ℕ → Instance → Option (ℕ × Instance)
 there_is number instance = Some (number, instance)
 
 never_none : {P : Type 0} (found : Option ℕ) (number : ℕ) → found ≡ Some number → found ≡ None → P
 never_none found number some none = let no : Some number ≡ None = sym some ∙ none in absurd cc
-
-is_itself : (a : ℕ) → (a == a) ≡ true
-is_itself a = (Decides-eqb a a).1 refl
-
-differs : (a b : ℕ) → (a ≡ b → ⊥) → (test : Bool) → (a == b) ≡ test → test ≡ false
-differs a b apart false is = refl
-differs a b apart true is = absurd (apart ((Decides-eqb a b).0 is))
 
 -- ---- sessions
 
@@ -172,15 +156,6 @@ unrun_so names instances kept own call own_call kind.Settled apart homes go = go
 
 -- ---- the instance
 
--- what the machine has under another number than the instance's is nothing
-found_elsewhere : (one number : ℕ) (instance : Instance) → (one ≡ number → ⊥)
-    → found_at (Some (one, instance)) number ≡ None
-found_elsewhere one number instance apart =
-    ap (λ b. if b then Some instance else None) (differs one number apart (one == number) refl)
-
-found_here : (number : ℕ) (instance : Instance) → found_at (Some (number, instance)) number ≡ Some instance
-found_here number instance = ap (λ b. if b then Some instance else None) (is_itself number)
-
 -- an instance of the machine is the one that is there
 pub one_there : (own : Option (ℕ × Instance)) (number : ℕ) (instance : Instance) → found_at own number ≡ Some instance
     → own ≡ Some (number, instance)
@@ -198,131 +173,3 @@ one_there (Some (one, kept)) number instance found = by_test (one == number) ref
 abbrev pub NoOther : (names in_slots : NumberMap ℕ) → NumberMap Instance → ℕ → Type 0
 NoOther names in_slots kept number = (at own_at : ℕ) → get names at ≡ Some own_at → (number ≡ at → ⊥) →
     FoundAlike in_slots (get kept at) None
-
--- where one is there, there is no other
-pub no_other : (app : Application) (names in_slots : NumberMap ℕ) (kept : NumberMap Instance)
-    (own : Option (ℕ × Instance)) (number own_number : ℕ) (instance : Instance) → AreApart names
-    → get names number ≡ Some own_number → found_at own own_number ≡ Some instance
-    → AreTiedInstances app names in_slots kept own → NoOther names in_slots kept number
-no_other app names in_slots kept own number own_number instance apart named found tied = λ at own_at has other.
-    subst (λ (o : Option Instance). FoundAlike in_slots (get kept at) o)
-    (ap (λ (o : Option (ℕ × Instance)). found_at o own_at) (one_there own own_number instance found)
-    ∙ found_elsewhere own_number own_at instance
-    (λ same. other (apart number at own_at (named ∙ ap (λ n. Some n) same) has)))
-    (tied.alike at own_at has)
-
--- one that is alike comes under this number
-pub instance_put : (app : Application) (names in_slots : NumberMap ℕ) (kept : NumberMap Instance)
-    (own : Option (ℕ × Instance)) (number own_number : ℕ) (instance own_instance : Instance) → AreApart names
-    → get names number ≡ Some own_number → NoOther names in_slots kept number
-    → InstancesAlike in_slots instance own_instance → IsOfGroup app names number instance.uuid
-    → AreTiedInstances app names in_slots kept own
-    → AreTiedInstances app names in_slots (insert kept number instance) (Some (own_number, own_instance))
-instance_put app names in_slots kept own number own_number instance own_instance apart named alone alike of_app tied =
-    record {
-      alike = λ at own_at has.
-          by_numbers number at
-          (λ same. found_both in_slots (get (insert kept number instance) at) (Some instance)
-          (found_at (Some (own_number, own_instance)) own_at) (Some own_instance)
-          (ap (λ n. get (insert kept number instance) n) (sym same) ∙ get-insert-same kept number instance)
-          (ap (λ n. found_at (Some (own_number, own_instance)) n)
-          (same_some own_at own_number (sym has ∙ ap (λ n. get names n) (sym same) ∙ named))
-          ∙ found_here own_number own_instance) alike)
-          (λ other. found_both in_slots (get (insert kept number instance) at) (get kept at)
-          (found_at (Some (own_number, own_instance)) own_at) None
-          (get-insert-other kept number instance at other)
-          (found_elsewhere own_number own_at own_instance
-          (λ same. other (apart number at own_at (named ∙ ap (λ n. Some n) same) has)))
-          (alone at own_at has other));
-      all = λ own_at there is. (
-        number,
-        named ∙ ap (λ (p : ℕ × Instance). Some p.0)
-            (same_pair (own_number, own_instance) (own_at, there) is),
-      );
-      of_app = All-insert (λ (one : ℕ × Instance). IsOfGroup app names one.0 one.1.uuid) kept number instance
-          tied.of_app of_app;
-    }
-  where
-    found_both : (numbers : NumberMap ℕ) (a b c d : Option Instance) → a ≡ b → c ≡ d → FoundAlike numbers b d
-        → FoundAlike numbers a c
-    found_both numbers a b c d first second both =
-        subst (λ (o : Option Instance). FoundAlike numbers o c) (sym first)
-        (subst (λ (o : Option Instance). FoundAlike numbers b o) (sym second) both)
-
--- it goes
-instance_gone : (app : Application) (names in_slots : NumberMap ℕ) (kept : NumberMap Instance)
-    (own : Option (ℕ × Instance)) (number : ℕ) → NoOther names in_slots kept number
-    → AreTiedInstances app names in_slots kept own → AreTiedInstances app names in_slots (remove kept number) None
-instance_gone app names in_slots kept own number alone tied = record {
-  alike = λ at own_at has.
-      by_numbers number at
-      (λ same. subst (λ (o : Option Instance). FoundAlike in_slots o None)
-      (sym (get-remove-same kept number) ∙ ap (λ n. get (remove kept number) n) same) tt)
-      (λ other. subst (λ (o : Option Instance). FoundAlike in_slots o None) (sym (get-remove-other kept number at other))
-      (alone at own_at has other));
-  all = λ own_at there is. absurd cc;
-  of_app = All-remove (λ (one : ℕ × Instance). IsOfGroup app names one.0 one.1.uuid) kept number tied.of_app;
-}
-
-put_back : (app : Application) (names in_slots : NumberMap ℕ) (instances : NumberMap Instance)
-    (own : Option (ℕ × Instance)) (number own_number : ℕ) (kept own_instance : Instance) (gone : Bool) → AreApart names
-    → get names number ≡ Some own_number → NoOther names in_slots instances number
-    → InstancesAlike in_slots kept own_instance → IsOfGroup app names number kept.uuid
-    → AreTiedInstances app names in_slots instances own
-    → AreTiedInstances app names in_slots (if gone then remove instances number else insert instances number kept)
-    (if gone then None else Some (own_number, own_instance))
-put_back app names in_slots instances own number own_number kept own_instance true apart named alone alike of_app tied =
-    instance_gone app names in_slots instances own number alone tied
-put_back app names in_slots instances own number own_number kept own_instance false apart named alone alike of_app tied =
-    instance_put app names in_slots instances own number own_number kept own_instance apart named alone alike of_app tied
-
--- what an instance that is given back comes to
-back_so : (app : Application) (session_names names in_slots : NumberMap ℕ) (sessions : NumberMap Session)
-    (own_sessions : NumberMap GroupSession) (instances : NumberMap Instance) (own : Option (ℕ × Instance))
-    (number own_number : ℕ) (is_last : Bool) (change : Instance → Instance) (found own_found : Option Instance)
-    → AreApart names → get names number ≡ Some own_number → SessionsGo session_names names sessions own_sessions
-    → ChangesAlike in_slots change → get instances number ≡ found → found_at own own_number ≡ own_found
-    → FoundAlike in_slots found own_found → AreTiedInstances app names in_slots instances own
-    → AreTiedInstances app names in_slots
-    (option_map_or (λ (kept : Instance). instances_after sessions instances number is_last (change kept)) found instances)
-    (option_map_or (λ (kept : Instance). instance_back own_sessions is_last own_number (change kept)) own_found own)
-back_so app session_names names in_slots sessions own_sessions instances own number own_number is_last change None None
-    apart named go changes there own_there alike tied = tied
-back_so app session_names names in_slots sessions own_sessions instances own number own_number is_last change None
-    (Some own_kept) apart named go changes there own_there alike tied = absurd alike
-back_so app session_names names in_slots sessions own_sessions instances own number own_number is_last change (Some kept)
-    None apart named go changes there own_there alike tied = absurd alike
-back_so app session_names names in_slots sessions own_sessions instances own number own_number is_last change (Some kept)
-    (Some own_kept) apart named go changes there own_there alike tied =
-    let now = changes.alike kept own_kept alike in
-    let same : (is_last || ((change kept).dead && not (has_opened sessions number)))
-    ≡ (is_last || ((change own_kept).dead && not (machine.has_opened own_sessions own_number))) =
-    ap (λ b. is_last || (b && not (has_opened sessions number))) now.dead
-    ∙ ap (λ b. is_last || ((change own_kept).dead && not b))
-    (opened_same session_names names sessions own_sessions number own_number go.rising apart named go.tied) in
-    let of_app : IsOfGroup app names number (change kept).uuid =
-    subst (λ (u : List ℕ). IsOfGroup app names number u) (sym (changes.uuid kept))
-    (All-get (λ (one : ℕ × Instance). IsOfGroup app names one.0 one.1.uuid) instances number kept tied.of_app there) in
-    subst (λ b. AreTiedInstances app names in_slots (instances_after sessions instances number is_last (change kept))
-    (if b then None else Some (own_number, change own_kept))) same
-    (put_back app names in_slots instances own number own_number (change kept) (change own_kept)
-    (is_last || ((change kept).dead && not (has_opened sessions number))) apart named
-    (no_other app names in_slots instances own number own_number own_kept apart named own_there tied) now of_app tied)
-
--- ---- the tables
-
--- these are the sessions, and a call gives its instance back
-pub gives_back_tied : (app : Application) (names : Names) (slots : List ThreadSlot) (tables : Tables) (g : Group)
-    (call : PendingCall) (own : GroupCall) (sessions : NumberMap Session) (own_sessions : NumberMap GroupSession)
-    (is_last : Bool) (change : Instance → Instance) → get names.instances call.instance ≡ Some own.instance
-    → SessionsGo names.sessions names.instances sessions own_sessions → ChangesAlike names.numbering.in_slots change
-    → Tied app names slots tables g
-    → Tied app names slots (gives_back tables call sessions is_last change)
-    (machine.gives_back g own own_sessions is_last change)
-gives_back_tied app names slots tables g call own sessions own_sessions is_last change on go changes tied =
-    let back = back_so app names.sessions names.instances names.numbering.in_slots sessions own_sessions tables.instances
-    g.instance call.instance own.instance is_last change (get tables.instances call.instance)
-    (found_at g.instance own.instance) tied.instance_names.apart on go changes refl refl
-    (tied.instances.alike call.instance own.instance on) tied.instances in
-    tables_change app names slots tables (gives_back tables call sessions is_last change) g own_sessions
-    (machine.gives_back g own own_sessions is_last change).instance g.waiting tied go.tied back tied.waiters refl refl

@@ -1,20 +1,17 @@
--- When a kernel and the machine of a group are tied: what either does next at an event of the group is the same, and no
--- other event unties them. They are from the boot on, when neither has anything. This project's own.
-use Rattle.std.specs.Prelude.{◌≡◌, ◌↔◌, ℕ, ◌==◌, true, List, Option, Some, None, IsSome, is_some, map, filter}
-use Rattle.std.specs.Prelude.{All, bytes_eq, if◌then◌else◌}
+-- When a session or a call of a kernel and one of a machine do the same next, by the names of sessions and instances. This
+-- project's own.
+use Rattle.std.specs.Prelude.{◌≡◌, ℕ, ◌==◌, true, List, Option, Some, None, is_some}
+use Rattle.std.specs.Prelude.{if◌then◌else◌}
 use Rattle.std.specs.Option.{option_and_then}
 use Rattle.base.specs.NumberMap.{NumberMap, IsRising, get}
 use Rattle.job_model.specs.declared.call_kind.CallKind.{CallKind}
 use Rattle.job_model.specs.declared.call_kind.CallKind.TheVariants as kind
 use Rattle.session_table.specs.declared.session.Session.{Session}
-use Rattle.session_table.specs.declared.waiters.Waiter.{Waiter}
-use Rattle.kernel_model.specs.Application.{Application, uuid_of}
-use Rattle.kernel_model.specs.Kernel.{PendingCall, ThreadSlot, Instance, Tables}
+use Rattle.kernel_model.specs.Kernel.{PendingCall, ThreadSlot, Instance}
 use Rattle.kernel_model.specs.Resume.{phase_seen}
 use Rattle.own_model.specs.Own.{Numbering}
-use Rattle.own_model.specs.Tied.{FoundAlike, PhasesAlike, WasTold, call_at}
-use Rattle.group_model.specs.Group.{Group, GroupCall, GroupSession, GroupWaiter}
-use Rattle.group_model.specs.Line.{AreKept, AreNames, AreTiedCalls}
+use Rattle.own_model.specs.Tied.{PhasesAlike, WasTold, call_at}
+use Rattle.group_model.specs.Group.{GroupCall, GroupSession}
 
 -- the machine's numbers, by the kernel's: of sessions and instances, also of those that are gone, and of calls by their
 -- slots. The machine's numbers of instances can't be read off a history; whoever follows both keeps them
@@ -59,20 +56,6 @@ pub record AreTiedSessions (names : NumberMap ℕ) (instances : NumberMap ℕ) (
 abbrev pub found_at : Option (ℕ × Instance) → ℕ → Option Instance
 found_at own number = option_and_then (λ (there : ℕ × Instance). if there.0 == number then Some there.1 else None) own
 
--- an instance is of the application exactly where its number is one of the group's
-abbrev pub IsOfGroup : Application → NumberMap ℕ → ℕ → List ℕ → Type 0
-IsOfGroup app names number uuid = (uuid ≡ uuid_of app) ↔ IsSome (get names number)
-
--- the application's instance is the machine's. There is one at most, since the machine has no more; of a held one neither
--- has memory and objects, which are in the job of the holder
-pub record AreTiedInstances (app : Application) (names : NumberMap ℕ) (in_slots : NumberMap ℕ)
-    (kept : NumberMap Instance) (own : Option (ℕ × Instance)) : Type 0 where
-  pub alike : (number own_number : ℕ) → get names number ≡ Some own_number →
-      FoundAlike in_slots (get kept number) (found_at own own_number)
-  pub all : (own_number : ℕ) (instance : Instance) → own ≡ Some (own_number, instance) →
-      (number : ℕ) × (get names number ≡ Some own_number)
-  pub of_app : All (λ (one : ℕ × Instance). IsOfGroup app names one.0 one.1.uuid) kept
-
 -- ---- the calls
 
 -- the call is in this session and on this instance, but for one that was settled as it came in
@@ -114,41 +97,3 @@ pub record IsOther (sessions instances : NumberMap ℕ) (call : PendingCall) : T
 abbrev pub AreOthers : (sessions instances : NumberMap ℕ) → NumberMap ℕ → List ThreadSlot → Type 0
 AreOthers sessions instances in_slots slots = (slot : ℕ) (call : PendingCall) → call_at slots slot ≡ Some call →
     get in_slots slot ≡ None → IsOther sessions instances call
-
--- ---- those that wait
-
--- the calls that wait for an instance of the application
-abbrev pub waiting_of : Application → List Waiter → List Waiter
-waiting_of app waiters = filter (λ waiter. bytes_eq waiter.uuid (uuid_of app)) waiters
-
--- they are the machine's, in their order, each for its instance, which may be gone
-pub record AreTiedWaiters (app : Application) (instances : NumberMap ℕ) (in_slots : NumberMap ℕ) (waiters : List Waiter)
-    (waiting : List GroupWaiter) : Type 0 where
-  pub calls : map (λ (waiter : Waiter). get in_slots waiter.slot) (waiting_of app waiters)
-      ≡ map (λ (own : GroupWaiter). Some own.call) waiting
-  pub instances_of : map (λ (waiter : Waiter). get instances waiter.instance) (waiting_of app waiters)
-      ≡ map (λ (own : GroupWaiter). Some own.instance) waiting
-  pub of_app : All (λ (waiter : Waiter). IsOfGroup app instances waiter.instance waiter.uuid) waiters
-
--- ---- all of it
-
--- the slots and the tables of a kernel and the machine of the group of this application are tied
-pub record Tied (app : Application) (names : Names) (slots : List ThreadSlot) (tables : Tables) (g : Group) : Type 0 where
-  -- 1. its sessions are the machine's, opened or not, with the same login and context
-  pub sessions : AreTiedSessions names.sessions names.instances tables.sessions g.sessions
-  -- 2 and 3. its instance is, dead exactly where the machine's is, with the same memory and objects
-  pub instances : AreTiedInstances app names.instances names.numbering.in_slots tables.instances g.instance
-  -- 4 and 5. its calls in the slots are the machine's, which may be behind in steps
-  pub calls : AreTiedCalls (CallsAlike names.sessions names.instances) names.numbering slots g.calls
-  -- 6. so are those that wait; whom a call wakes is kept from the first telling of its result on
-  pub waiters : AreTiedWaiters app names.instances names.numbering.in_slots tables.waiters g.waiting
-  pub kept : AreKept IsTold names.numbering g.calls
-  -- 7. nobody else has a session or an instance of it
-  pub others : AreOthers names.sessions names.instances names.numbering.in_slots slots
-  -- as many calls and sessions have come in, and all numbers were given
-  pub entered : names.numbering.entered ≡ g.entered
-  pub next_session : names.next_session ≡ g.next_session
-  pub session_names : AreNames names.sessions tables.next_session names.next_session
-  pub instance_names : AreNames names.instances tables.next_instance g.next_instance
-  -- the machine was made with the boot's key
-  pub key : g.key ≡ names.key

@@ -22,7 +22,7 @@
 //!   steps, however long its buffers are. A call that comes in has to be among the group's first 2^32, since events
 //!   name calls by numbers of 32 bits: that is a condition, and no want of memory. Nothing else is said of an event
 //!   that can't come.
-//! - That the replies of a group in a history are these follows with the law of groups (`group_model`); both are read
+//! - That the replies of a group in a history are these follows with the law of groups (`realm_model`); both are read
 //!   off a journal by `instance_groups`. `core_cases` runs it.
 //!
 //! # Definitions

@@ -30,8 +30,8 @@
 //!   in the log (`event_adds`).
 //! - That machine can be fed with what `own_events` gives of such a session, one event after the other: each can come
 //!   behind those before it, a call that comes in is among the session's first 2^32, and one that runs and goes out
-//!   stays below 2^128 steps (`feeds`). That is all that `step` of `solo` asks. It holds since the machine is tied to
-//!   the kernel before each event of the history, and no call does more steps for each than the step limit.
+//!   stays below 2^128 steps (`feeds`). That is all that `step` of `solo` asks. It holds since the machine of its realm is
+//!   tied to the kernel before each event of the history, and no call does more steps for each than the step limit.
 //! - The journal is done again on a core of the same boot, over RAM that has what each entry read; what an entry is for
 //!   the session is read off what that core has decided, and what an exit is off the core (`journal_notes`).
 //! - What a new call is, whoever's it is, `planned_call` tells by the plan that was made of it: an open of an

@@ -1,15 +1,12 @@
 -- What a search finds, and what is in the lowest free slot.
-use Rattle.std.proofs.Common.{◌≡◌, ℕ, Bool, true, false, cond, List, [], ◌∷◌, ◌++◌, Option, Some, refl, ap, subst, ◌∙◌}
+use Rattle.std.proofs.Common.{◌≡◌, ℕ, Bool, true, false, cond, List, [], ◌∷◌, Option, Some, refl, subst}
 use Rattle.std.proofs.Common.{arith}
 use Rattle.std.specs.Prelude.{◌==◌, All, bytes_eq, find}
 use Rattle.std.proofs.lemmas.Bool.Decides.{nat_tests}
-use Rattle.std.proofs.lemmas.List.Elements.{All-cons, All-head, All-nil, All-tail, filter-append}
-use Rattle.std.proofs.lemmas.List.{append-nil}
+use Rattle.std.proofs.lemmas.List.Elements.{All-cons, All-head, All-nil, All-tail}
 use Rattle.std.proofs.lemmas.Slice.Eq.{bytes_eq-Decides}
-use Rattle.session_table.specs.declared.waiters.Waiter.{Waiter}
 use Rattle.kernel_model.specs.Application.{Application, Booted, uuid_of}
 use Rattle.kernel_model.specs.Instances.{app_of}
-use Rattle.own_model.specs.Tied.{waiting_for}
 
 -- an element that passes the test, of which what holds of all holds
 pub record Passes {X : Type 0} (P : X → Type 0) (test : X → Bool) (x : X) : Type 0 where
@@ -57,37 +54,3 @@ apart_numbers a b apart true e = absurd (apart (same a b e))
     same : (c d : ℕ) → (c == d) ≡ true → c ≡ d
     same c d is = grind (arith, nat_tests)
 apart_numbers a b apart false e = refl
-
-tail_holds : (P : Waiter → Type 0) (first : Waiter) (rest : List Waiter) (here : Bool)
-    → All P (cond here (first ∷ rest) rest) → All P rest
-tail_holds P first rest true all = All-tail P first rest all
-tail_holds P first rest false all = all
-
--- of the first that passes a test, where it waits for the instance, holds what holds of each that does
-pub waiter-all : (P : Waiter → Type 0) (test : Waiter → Bool) (instance : ℕ) (waiters : List Waiter) (x : Waiter)
-    → All P (waiting_for instance waiters) → x.instance ≡ instance → find test waiters ≡ Some x → Passes P test x
-waiter-all P test instance [] x all here e = absurd cc
-waiter-all P test instance (first ∷ waiters) x all here e =
-    by_test (test first) refl (waiter-all P test instance waiters x
-    (tail_holds P first (waiting_for instance waiters) (first.instance == instance) all) here) e
-  where
-    by_test : (passes : Bool) → test first ≡ passes → (find test waiters ≡ Some x → Passes P test x)
-        → cond passes (Some first) (find test waiters) ≡ Some x → Passes P test x
-    by_test true is rest found =
-        let same : first ≡ x = some_same first x found in
-        let waits : (first.instance == instance) ≡ true =
-        same_number first.instance instance (ap (λ (w : Waiter). w.instance) same ∙ here) in
-        let first_holds : P first =
-        All-head P first (waiting_for instance waiters)
-        (subst (λ b. All P (cond b (first ∷ waiting_for instance waiters) (waiting_for instance waiters))) waits all) in
-        subst (Passes P test) same (record { holds = first_holds; passes = is })
-    by_test false is rest found = rest found
-
--- one more that waits for another instance
-pub another_waits : (instance : ℕ) (waiters : List Waiter) (last : Waiter) → (last.instance ≡ instance → ⊥)
-    → waiting_for instance (waiters ++ last ∷ []) ≡ waiting_for instance waiters
-another_waits instance waiters last apart =
-    filter-append (λ (w : Waiter). w.instance == instance) waiters (last ∷ [])
-    ∙ ap (λ b. waiting_for instance waiters ++ cond b (last ∷ []) [])
-    (apart_numbers last.instance instance apart (last.instance == instance) refl)
-    ∙ append-nil (waiting_for instance waiters)

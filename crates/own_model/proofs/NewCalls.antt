@@ -49,21 +49,6 @@ pub record OfAllEndings (P : Taken → Type 0) (c : NewCall) : Type 0 where
   pub cancelled : (named : Session × Instance) → named_session c ≡ Some named → P (cancels c)
   pub registered : (buffers : NumberMap PageBuffer) → P (keeps_buffers c buffers)
 
--- what holds in each way, where what holds there implies it
-pub endings_weaker : (P Q : Taken → Type 0) (c : NewCall) → ((taken : Taken) → P taken → Q taken)
-    → OfAllEndings P c → OfAllEndings Q c
-endings_weaker P Q c then all = record {
-  settled = λ code. then _ (all.settled code);
-  settled_open = λ of login code. then _ (all.settled_open of login code);
-  opened = λ wanted of copies is. then _ (all.opened wanted of copies is);
-  dead = λ named is that. then _ (all.dead named is that);
-  faulty = λ named is that. then _ (all.faulty named is that);
-  invoked = λ named copies is that. then _ (all.invoked named copies is that);
-  closed = λ named is. then _ (all.closed named is);
-  cancelled = λ named is. then _ (all.cancelled named is);
-  registered = λ buffers. then _ (all.registered buffers);
-}
-
 parameters_fails : (P : Taken → Type 0) (c : NewCall) → OfAllEndings P c → Fails P (parameters c)
 parameters_fails P c all =
     reads-fails P (take_bytes (c.arg + 32) (32 * c.head.count)) _

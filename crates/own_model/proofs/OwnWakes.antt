@@ -1,48 +1,18 @@
--- Whom a call of the session wakes is whom the machine's call wakes, and is kept by its number.
-use Rattle.std.proofs.Common.{◌≡◌, ℕ, Bool, true, false, cond, List, [], ◌∷◌, Option, Some, None, refl, ap, subst, sym}
+-- Whom a call wakes, kept by its number.
+use Rattle.std.proofs.Common.{◌≡◌, ℕ, true, false, Option, Some, None, refl, ap}
 use Rattle.std.proofs.Common.{◌∙◌}
-use Rattle.std.specs.Prelude.{◌==◌, find, if◌then◌else◌, is_some, map, slice_get}
-use Rattle.std.specs.Option.{option_map, option_map_or, option_or}
+use Rattle.std.specs.Prelude.{is_some}
+use Rattle.std.specs.Option.{option_map_or, option_or}
 use Rattle.base.specs.NumberMap.{NumberMap, get, insert}
-use Rattle.job_model.specs.declared.call_kind.CallKind.{CallKind}
-use Rattle.job_model.specs.declared.call_kind.CallKind.TheVariants as kind
-use Rattle.session_table.specs.declared.waiters.Waiter.{Waiter}
-use Rattle.session_table.specs.Waiters.{first_of}
 use Rattle.ta_params.specs.declared.call_result.CallResult.{CallResult}
 use Rattle.ta_params.specs.declared.copied_params.CopiedParams.{CopiedParams}
-use Rattle.kernel_model.specs.Application.{Application}
-use Rattle.kernel_model.specs.Exit.{woken_by}
 use Rattle.kernel_model.specs.Instances.{is_held}
-use Rattle.kernel_model.specs.Kernel.{CallPhase, Ends, Instance, PendingCall, Tables}
+use Rattle.kernel_model.specs.Kernel.{CallPhase, Ends, Instance}
 use Rattle.own_model.proofs.Maps.{get-insert-other, get-insert-same}
-use Rattle.own_model.proofs.OwnChanges.{TablesAlike}
 use Rattle.own_model.specs.Own.{Numbering, wake_kept, wake_of, with_wake}
-use Rattle.own_model.specs.Solo.{Solo}
-use Rattle.own_model.specs.Solo as machine
-use Rattle.own_model.specs.Tied.{FoundAlike, HoldersAlike, IsOn, WakesAlike, Whose, waiting_for}
+use Rattle.own_model.specs.Tied.{FoundAlike, HoldersAlike, WakesAlike}
 
 -- ---- who is woken
-
--- the first that waits is the first of the machine
-first_alike : (numbers : NumberMap ℕ) (instance : ℕ) (waiters : List Waiter) (waiting : List ℕ)
-    → map (λ (waiter : Waiter). get numbers waiter.slot) (waiting_for instance waiters)
-    ≡ map (λ number. Some number) waiting
-    → HoldersAlike numbers (first_of waiters instance) (slice_get waiting 0)
-first_alike numbers instance [] [] order = tt
-first_alike numbers instance [] (number ∷ waiting) order = absurd cc
-first_alike numbers instance (waiter ∷ waiters) waiting order =
-    by_test waiting (waiter.instance == instance) (first_alike numbers instance waiters waiting) order
-  where
-    by_test : (line : List ℕ) (here : Bool)
-        → (map (λ (w : Waiter). get numbers w.slot) (waiting_for instance waiters) ≡ map (λ number. Some number) line
-        → HoldersAlike numbers (first_of waiters instance) (slice_get line 0))
-        → map (λ (w : Waiter). get numbers w.slot) (cond here (waiter ∷ waiting_for instance waiters)
-        (waiting_for instance waiters)) ≡ map (λ number. Some number) line
-        → HoldersAlike numbers (option_map (λ (w : Waiter). w.slot)
-        (cond here (Some waiter) (find (λ (w : Waiter). w.instance == instance) waiters))) (slice_get line 0)
-    by_test [] true rest e = absurd cc
-    by_test (number ∷ line) true rest e = cc
-    by_test line false rest e = rest e
 
 pub held_alike : (numbers : NumberMap ℕ) (kept own : Option Instance) → FoundAlike numbers kept own
     → option_map_or is_held kept false ≡ option_map_or is_held own false
@@ -56,34 +26,6 @@ held_alike numbers (Some kept) (Some own) alike = by_holder kept.holder own.hold
     by_holder (Some slot) None holders = absurd holders
 held_alike numbers None (Some own) alike = absurd alike
 held_alike numbers (Some kept) None alike = absurd alike
-
-module _ (app : Application) (whose : Whose) (tables : Tables) (z : Solo)
-    (alike : TablesAlike app whose tables z.session z.instance z.waiting) where
-  free_alike : (instance : ℕ) → instance ≡ whose.instance
-      → HoldersAlike whose.numbering.in_slots (if option_map_or is_held (get tables.instances instance) false then None
-      else first_of tables.waiters instance)
-      (if option_map_or is_held z.instance false then None else slice_get z.waiting 0)
-  free_alike instance here =
-      subst (λ n. HoldersAlike whose.numbering.in_slots
-      (if option_map_or is_held (get tables.instances n) false then None else first_of tables.waiters n)
-      (if option_map_or is_held z.instance false then None else slice_get z.waiting 0)) (sym here)
-      (subst (λ b. HoldersAlike whose.numbering.in_slots (if b then None else first_of tables.waiters whose.instance)
-      (if option_map_or is_held z.instance false then None else slice_get z.waiting 0))
-      (sym (held_alike whose.numbering.in_slots (get tables.instances whose.instance) z.instance alike.instance_alike))
-      (by_test (option_map_or is_held z.instance false)))
-    where
-      by_test : (held : Bool)
-          → HoldersAlike whose.numbering.in_slots (if held then None else first_of tables.waiters whose.instance)
-          (if held then None else slice_get z.waiting 0)
-      by_test true = tt
-      by_test false = first_alike whose.numbering.in_slots whose.instance tables.waiters z.waiting alike.waiters.order
-
-  pub woken_alike : (call : PendingCall) (call_kind : CallKind) → IsOn whose.instance call call_kind
-      → HoldersAlike whose.numbering.in_slots (woken_by tables call call_kind) (machine.woken_by z call_kind)
-  woken_alike call kind.Settled on = tt
-  woken_alike call kind.Open on = free_alike call.instance on
-  woken_alike call (kind.Invoke func) on = free_alike call.instance on
-  woken_alike call kind.Close on = free_alike call.instance on
 
 -- ---- how it is kept
 

@@ -26,7 +26,7 @@
 //!   that can't come.
 //! - `copied_outputs` copies what is told of the parameters of a call that has ended.
 //! - That the replies of a session in a history are these, event by event, follows with the law of isolation
-//!   (`own_model`); both are read off a journal by `isolation`. `core_cases` runs it.
+//!   (`realm_model`); both are read off a journal by `isolation`. `core_cases` runs it.
 //!
 //! # Definitions
 //!

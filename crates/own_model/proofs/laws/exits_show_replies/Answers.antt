@@ -1,5 +1,5 @@
 use Rattle.own_model.proofs.Shown.{exits_show as law}
-use Rattle.own_model.proofs.isolation.exits_show_replies.Goals as goal
+use Rattle.own_model.proofs.laws.exits_show_replies.Goals as goal
 
 pub returns : goal.returns
 returns c = law

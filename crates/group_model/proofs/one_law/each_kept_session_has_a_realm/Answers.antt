@@ -1,5 +1,0 @@
-use Rattle.group_model.proofs.EachKept.{each_kept_has_a_realm as law}
-use Rattle.group_model.proofs.one_law.each_kept_session_has_a_realm.Goals as goal
-
-pub returns : goal.returns
-returns c = law

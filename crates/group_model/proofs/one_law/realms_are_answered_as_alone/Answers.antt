@@ -1,5 +1,0 @@
-use Rattle.group_model.proofs.OneLaw.{answered_as_a_realm as law}
-use Rattle.group_model.proofs.one_law.realms_are_answered_as_alone.Goals as goal
-
-pub returns : goal.returns
-returns c = law
