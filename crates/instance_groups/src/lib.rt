@@ -1,12 +1,12 @@
 //! What happened to the sessions of an application, and what they were answered, read off the journal of a core.
 //!
-//! The journal is done again as `isolation` does it again for one session. What an entry and an exit are for the group is
-//! read off that core, as the definitions of `group_model` read it off the kernel, and noted. The machine of the group, as code,
-//! can be fed with the events.
+//! The journal is done again as `isolation` does it again for one session. What an entry is for the group is read off what
+//! was decided of it, before it is done, and what an exit is off that core, as the definitions of `group_model` read both
+//! off the kernel; and each is noted. The machine of the group, as code, can be fed with the events.
 //!
 //! | Module | What it has |
 //! |---|---|
-//! | `arriving`, `coming` | what an entry is for the group, as far as it can be told before it, and what is noted of it |
+//! | `arriving`, `coming` | what an entry is for the group, by what was decided of it, and what is noted of it |
 //! | `going` | what is noted of a call that goes out |
 //! | `notes`, `group_notes` | what is noted, and the notes as those that `journal_notes` takes |
 //! | `group_log`, `log_reader`, `group` | what is read off a journal, event by event, and of a whole one |

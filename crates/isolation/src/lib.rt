@@ -1,13 +1,14 @@
 //! What happened to one session, and what it was answered, read off the journal of a core.
 //!
 //! The journal is done again: a core of the same boot lets the same processors in, each over RAM that has the bytes that
-//! its entry read, and lets them out again. What an entry and an exit are for the session is read off that core, as the
-//! definitions of `own_model` read it off the kernel, and noted.
+//! its entry read, and lets them out again. What an entry is for the session is read off what was decided of it, before
+//! it is done, and what an exit is off that core, as the definitions of `own_model` read both off the kernel; and each is
+//! noted.
 //!
 //! | Module | What it has |
 //! |---|---|
 //! | `calls` | what a new call is, whoever's it is |
-//! | `entering`, `coming` | what an entry is for the session, as far as it can be told before it, and what is noted of it |
+//! | `entering`, `coming` | what an entry is for the session, by what was decided of it, and what is noted of it |
 //! | `leaving`, `going` | what is told of a call that goes out, and what is noted of that |
 //! | `numbering` | the numbers of a session's calls |
 //! | `notes`, `session_notes` | what is noted, and the notes as those that `journal_notes` takes |

@@ -113,7 +113,7 @@ pub record BringsCall (boot : Booted) (history : List Event) (happened : Event) 
   pub session : Session
   pub kept : get next.tables.sessions call.session ≡ Some session
 
--- a log of events with their replies grows by this event, where there is one, beside which stands no reply
+-- there is such an event, and a log of events with their replies grows by it, beside which stands no reply
 pub record GrowsBy {E R : Type 0} (before after : List (E × Option R)) (event : Option E) : Type 0 where
   pub came : E
   pub is : event ≡ Some came

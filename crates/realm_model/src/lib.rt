@@ -18,13 +18,13 @@
 //! - As a kernel boots it is tied to the machine of each realm (`boots_are_tied`); tied they stay by a fixed answer
 //!   (`fixed_answers_keep_realms`), by an exit, a resume or a new call that isn't the realm's
 //!   (`exits_of_others_keep_realms`, `resumes_of_others_keep_realms`, `calls_of_others_keep_realms`), by its new calls
-//!   (`own_calls_keep_realms`), by an interrupt of a call of the realm (`interrupts_keep_realms`) and by its other exits and resumes
-//!   (`own_exits_keep_realms`, `own_resumes_keep_realms`).
+//!   (`own_calls_keep_realms`), by an interrupt of a call of the realm (`interrupts_keep_realms`) and by its other exits
+//!   and resumes (`own_exits_keep_realms`, `own_resumes_keep_realms`).
 //! - In each legal history the machine of a realm, which has the realm's events alone, answers as the realm was answered
 //!   (`realms_are_answered`), within bounds of calls and steps (`realms_stay_within`); so two realms of one application to
 //!   which the same has happened were answered the same (`same_events_of_realms_get_same_replies`), in the end and at each
-//!   beginning (`same_beginnings_of_realms_get_same_replies`). Each session that the kernel keeps is a member of a realm, and keeps its
-//!   number there (`kept_sessions_are_members`).
+//!   beginning (`same_beginnings_of_realms_get_same_replies`). Each session that the kernel keeps is a member of a realm,
+//!   and keeps its number there (`kept_sessions_are_members`).
 //! - What `own_model` says of one session follows, in its own words: it is answered as its machine answers
 //!   (`sessions_are_answered_as_alone`), two to which the same has happened are answered and shown the same
 //!   (`same_events_get_same_replies`, `same_beginnings_get_same_replies`, `same_events_show_the_same`), which sessions this is

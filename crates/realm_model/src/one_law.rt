@@ -13,23 +13,24 @@ pub fn realms_are_answered_as_alone()
     ensures { AnsweredAsARealm }
 {}
 
-/// So in two worlds: those to whom the same has happened were answered the same.
+/// Two realms of one application to which the same has happened, each in a history of its own, were answered the same.
 pub fn same_realm_events_get_same_replies()
     ensures { SameRealmEventsSameReplies }
 {}
 
-/// And this is about each session that the kernel keeps, from then on.
+/// Each session that the kernel keeps on an instance is in a realm, from then on in the same one.
 pub fn kept_sessions_have_realms()
     ensures { KeptSessionsHaveRealms }
 {}
 
-/// About each, that is, also while the instance that its open waits for is gone.
+/// Each session that the kernel keeps is in a realm, also while the instance that its open waits for is gone; one whose
+/// open hasn't ended is in a realm of the application that the open names.
 pub fn each_kept_session_has_a_realm()
     ensures { EachKeptSessionHasARealm }
 {}
 
-/// And about each of their calls: a new call that gets a slot, in a session that is kept then, is the last of what has happened to
-/// the realm that the session is in.
+/// A new call that gets a slot, in a session that is kept then, is the last of what has happened to the realm that the
+/// session is in.
 pub fn calls_are_in_realms()
     ensures { CallsAreInRealms }
 {}
