@@ -9,8 +9,8 @@ use Rattle.base.specs.NumberMap.{NumberMap, insert}
 use Rattle.kernel_model.specs.Kernel.{Cancel, Instance, PendingCall, Tables, ThreadSlot, cancelled_slots}
 use Rattle.kernel_model.specs.Sound.{unmarked}
 use Rattle.own_model.proofs.Lookups.{apart_numbers}
-use Rattle.own_model.proofs.OtherEntries.{cancels_mark}
-use Rattle.own_model.proofs.Others.{there_but_marked}
+use Rattle.own_model.proofs.Marks.{cancels_mark}
+use Rattle.own_model.proofs.Marks.{there_but_marked}
 use Rattle.own_model.specs.Tied.{call_at}
 use Rattle.group_model.specs.Group.{Group}
 use Rattle.group_model.specs.Tied.{AreOthers}

@@ -4,7 +4,7 @@ use Rattle.std.specs.Option.{option_map}
 use Rattle.base.specs.NumberMap.{NumberMap, get}
 use Rattle.kernel_model.specs.Kernel.{PendingCall, ThreadSlot}
 use Rattle.kernel_model.specs.Sound.{unmarked}
-use Rattle.own_model.proofs.Others.{there_but_marked}
+use Rattle.own_model.proofs.Marks.{there_but_marked}
 use Rattle.own_model.specs.Own.{Numbering}
 use Rattle.own_model.specs.Tied.{call_at}
 use Rattle.group_model.specs.Line.{AreTiedCalls, HasNumber}

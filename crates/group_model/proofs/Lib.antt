@@ -6,7 +6,6 @@ pub mod Alike
 pub mod NewForms
 pub mod BegunCalls
 pub mod NewEntries
-pub mod OwnEntries
 pub mod Kept
 pub mod OtherExits
 pub mod OtherResumes
@@ -14,11 +13,8 @@ pub mod MoreSteps
 pub mod OrderedChanges
 pub mod InOrder
 pub mod CallChanges
-pub mod Woken
 pub mod Ends
-pub mod LeftLine
 pub mod Given
-pub mod Room
 pub mod RepliesTold
 pub mod EmbeddedParts
 pub mod EmbeddedCalls

@@ -8,8 +8,8 @@ use Rattle.kernel_model.specs.Sound.{unmarked}
 use Rattle.kernel_model.proofs.Parts.{set_found, set_other}
 use Rattle.own_model.proofs.Maps.{get-insert-other, get-insert-same, get-inserted}
 use Rattle.own_model.proofs.OtherCalls.{less}
-use Rattle.own_model.proofs.OtherEntries.{cancels_mark}
-use Rattle.own_model.proofs.Others.{there_but_marked}
+use Rattle.own_model.proofs.Marks.{cancels_mark}
+use Rattle.own_model.proofs.Marks.{there_but_marked}
 use Rattle.own_model.proofs.OwnTaken.{free_marked, numbered_apart}
 use Rattle.own_model.specs.Own.{Numbering, next_in}
 use Rattle.own_model.specs.Tied.{call_at, call_in}

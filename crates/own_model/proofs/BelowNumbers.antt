@@ -10,6 +10,7 @@ use Rattle.kernel_model.specs.Kernel.{Active, Free, Instance, Kernel, PendingCal
 use Rattle.kernel_model.specs.Sound as sound
 use Rattle.kernel_model.specs.SoundNumbers.{AreNumbered, IsGiven, IsNumberedSession}
 use Rattle.own_model.specs.Tied.{call_at, call_in}
+use Rattle.kernel_model.specs.Located.{with_argument_pinned}
 
 -- a session and its instance, and a call and its, have numbers that were given before
 abbrev pub IsBelow : Tables → ℕ → ℕ → Type 0
@@ -62,3 +63,16 @@ below_numbers kernel numbers = record {
   where
     at_least : (a b : ℕ) → 1 ≤ a → a ≤ b → 1 ≤ b
     at_least a b one le = omega arith
+
+-- ---- a pin
+
+pub below_pinned : (slots : List ThreadSlot) (tables : Tables) (named : Option ℕ) (slot : ℕ) → AreBelow slots tables
+    → AreBelow slots (with_argument_pinned named tables slot)
+below_pinned slots tables named slot below = record {
+  session_from_one = below.session_from_one;
+  instance_from_one = below.instance_from_one;
+  sessions = below.sessions;
+  instances = below.instances;
+  waiters = below.waiters;
+  calls = below.calls;
+}

@@ -29,7 +29,7 @@ use Rattle.own_model.proofs.NewCalls.{OfAllEndings}
 use Rattle.own_model.proofs.NewEntries.{IsTaken, new_call_taken}
 use Rattle.own_model.proofs.NotedCalls.{other_unnoted, untold_unnoted}
 use Rattle.own_model.proofs.OtherCalls.{named_parts}
-use Rattle.own_model.proofs.PinnedTables.{below_pinned}
+use Rattle.own_model.proofs.BelowNumbers.{below_pinned}
 use Rattle.own_model.specs.declared.own_event.OwnEvent.{OwnEvent}
 use Rattle.own_model.specs.Own.{event_in, event_of}
 

@@ -36,17 +36,23 @@ use Rattle.own_model.proofs.FixedAnswers.{entered, left}
 use Rattle.own_model.proofs.Maps.{get-insert-same}
 use Rattle.own_model.proofs.NewEntries.{IsTaken, new_call_noted}
 use Rattle.own_model.proofs.NotedCalls.{noted_is}
-use Rattle.own_model.proofs.OtherExits.{none_noted}
 use Rattle.own_model.proofs.OtherResumes.{resumed_noted}
 use Rattle.own_model.proofs.BelowNumbers.{AreBelow, IsBelow}
 use Rattle.own_model.specs.declared.own_event.OwnEvent.{OwnEvent}
 use Rattle.own_model.specs.declared.own_event.OwnEvent.TheVariants as own_event
-use Rattle.own_model.specs.Own.{Entering, Notes, entry_noted, event_in, event_noted, event_of, fixed_noted, is_limit, no_notes}
+use Rattle.own_model.specs.Own.{Entering, Notes, entry_noted, event_in, event_noted, event_of, fixed_noted, is_limit, no_notes, exit_noted}
 use Rattle.own_model.specs.Own.{numbered, out_noted, uuid_by}
 use Rattle.own_model.specs.Parameters.{params_of}
 use Rattle.own_model.specs.Tied.{call_at, call_in}
 use Rattle.realm_model.proofs.EarlyCalls.{Another, Coming, IsItsOpen, ItWaits, ItsOpen, early_call}
 use Rattle.realm_model.proofs.Openings.{IsOpening}
+
+-- nothing is noted of an exit from a slot without a number
+pub none_noted : (notes : Notes) (slot : ℕ) (found : Option ℕ) (progress : Option Progress) → found ≡ None
+    → option_map_or (λ (p : Progress). option_map_or (exit_noted notes slot p.call) found notes) progress notes ≡ notes
+none_noted notes slot None None e = refl
+none_noted notes slot None (Some progress) e = refl
+none_noted notes slot (Some number) progress e = absurd cc
 
 -- ---- what comes next
 

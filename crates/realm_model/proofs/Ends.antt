@@ -8,12 +8,11 @@ use Rattle.base.proofs.MapLemmas.{All-get, All-insert, All-remove}
 use Rattle.session_table.specs.declared.session.Session.{Session}
 use Rattle.realm_model.specs.Tied.{Members}
 use Rattle.kernel_model.specs.Exit.{gives_back}
-use Rattle.kernel_model.specs.Instances.{instances_after}
+use Rattle.kernel_model.specs.Instances.{instances_after, given_back, killed}
 use Rattle.kernel_model.specs.Kernel.{Instance, PendingCall, Tables, ThreadSlot}
 use Rattle.kernel_model.specs.Sessions.{has_opened}
 use Rattle.own_model.proofs.InOrder.{by_numbers}
 use Rattle.own_model.proofs.Maps.{get-insert-other, get-insert-same, get-remove-other, get-remove-same}
-use Rattle.own_model.proofs.OwnEnds.{ChangesAlike}
 use Rattle.own_model.specs.Tied.{FoundAlike, InstancesAlike}
 use Rattle.group_model.specs.Group.{Group, GroupCall, GroupSession, instance_back}
 use Rattle.group_model.specs.Group as machine
@@ -24,18 +23,34 @@ use Rattle.realm_model.specs.Tied.{Tied}
 use Rattle.group_model.proofs.Alike.{AreApart, opened_same}
 use Rattle.realm_model.proofs.CallChanges.{tables_change}
 use Rattle.group_model.proofs.Ends.{NoOther, SessionsGo, one_there}
+use Rattle.job_model.specs.Steps.{End}
+
+-- ---- the instance
+
+-- a change that makes alike instances alike, of the same application
+pub record ChangesAlike (numbers : NumberMap ℕ) (change : Instance → Instance) : Type 0 where
+  pub alike : (kept own : Instance) → InstancesAlike numbers kept own
+      → InstancesAlike numbers (change kept) (change own)
+  pub uuid : (kept : Instance) → (change kept).uuid ≡ kept.uuid
+
+pub given_alike : (numbers : NumberMap ℕ) (end : End) → ChangesAlike numbers (given_back end.memory end.objects)
+given_alike numbers end = record {
+  alike = λ kept own alike.
+      record { uuid = alike.uuid; dead = alike.dead; holders = tt; memory = refl; objects = refl };
+  uuid = λ kept. refl;
+}
+
+pub killed_alike : (numbers : NumberMap ℕ) → ChangesAlike numbers killed
+killed_alike numbers = record {
+  alike = λ kept own alike. record { uuid = alike.uuid; dead = refl; holders = tt; memory = refl; objects = refl };
+  uuid = λ kept. refl;
+}
 
 same_some : (a b : ℕ) → Some a ≡ Some b → a ≡ b
 same_some a b e = cc
 
 same_pair : (a b : ℕ × Instance) → Some a ≡ Some b → a ≡ b
 same_pair a b e = cc
-
-abbrev there_is : ℕ → Instance → Option (ℕ × Instance)
-there_is number instance = Some (number, instance)
-
-never_none : {P : Type 0} (found : Option ℕ) (number : ℕ) → found ≡ Some number → found ≡ None → P
-never_none found number some none = let no : Some number ≡ None = sym some ∙ none in absurd cc
 
 is_itself : (a : ℕ) → (a == a) ≡ true
 is_itself a = (Decides-eqb a a).1 refl

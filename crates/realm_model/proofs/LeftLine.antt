@@ -1,14 +1,17 @@
 -- A call of the realm that waits no more leaves those that wait, and the machine's its line.
 use Rattle.std.proofs.Common.{◌≡◌, ℕ, Bool, true, false, cond, not, List, [], ◌∷◌, Some, refl, ap, subst, sym, ◌∙◌}
-use Rattle.std.specs.Prelude.{◌==◌, is_some, map}
+use Rattle.std.specs.Prelude.{◌==◌, is_some, map, filter}
 use Rattle.std.proofs.lemmas.List.Elements.{All-filter}
 use Rattle.base.specs.NumberMap.{NumberMap, get}
 use Rattle.session_table.specs.declared.waiters.Waiter.{Waiter}
 use Rattle.session_table.specs.Waiters.{without}
 use Rattle.group_model.specs.Group.{GroupWaiter}
 use Rattle.realm_model.specs.Tied.{AreTiedWaiters, IsOfRealm, Members, waiting_of}
-use Rattle.group_model.proofs.Woken.{named_same}
-use Rattle.group_model.proofs.LeftLine.{line_without}
+use Rattle.realm_model.proofs.Woken.{named_same}
+
+-- the line without a call
+abbrev pub line_without : List GroupWaiter → ℕ → List GroupWaiter
+line_without line number = filter (λ (waiter : GroupWaiter). not (waiter.call == number)) line
 
 -- those that wait for an instance with a name without a call are those without it that wait for one
 filters : (instances : NumberMap ℕ) (waiters : List Waiter) (slot : ℕ)

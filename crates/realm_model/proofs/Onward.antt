@@ -53,7 +53,7 @@ use Rattle.group_model.proofs.Alike.{opened_same, sessions_removed}
 use Rattle.group_model.proofs.Ends.{NoOther}
 use Rattle.realm_model.proofs.Ends.{instance_put}
 use Rattle.group_model.proofs.Given.{IsSameCall, given_alike, given_same, own_given}
-use Rattle.group_model.proofs.LeftLine.{line_without}
+use Rattle.realm_model.proofs.LeftLine.{line_without}
 use Rattle.realm_model.proofs.LeftLine.{leaves_line}
 use Rattle.realm_model.proofs.Progress.{OwnThere, Place, kept_at}
 use Rattle.realm_model.proofs.Room.{IsReady}

@@ -1,5 +1,5 @@
 -- An entry with a new call that isn't the realm's leaves kernel and machine tied.
-use Rattle.std.proofs.Common.{◌≡◌, ℕ, List, Option, Some, None, refl, ap, subst, sym, ◌∙◌}
+use Rattle.std.proofs.Common.{◌≡◌, ℕ, List, Option, Some, None, refl, ap, subst, sym, ◌∙◌, ◌≤◌, ◌<◌, arith}
 use Rattle.std.specs.Prelude.{slice_get, slice_set}
 use Rattle.std.specs.Option.{option_and_then, option_map_or}
 use Rattle.base.specs.NumberMap.{get}
@@ -12,8 +12,7 @@ use Rattle.kernel_model.specs.Kernel.{Active, Free, InSlot, Inside, Kernel, Pend
 use Rattle.kernel_model.specs.Kernel.{cancelled_slots}
 use Rattle.kernel_model.specs.Located.{Located, cookie_of}
 use Rattle.own_model.proofs.BelowNumbers.{AreBelow, below_numbers}
-use Rattle.own_model.proofs.PinnedTables.{below_pinned}
-use Rattle.group_model.proofs.OwnEntries.{positive}
+use Rattle.own_model.proofs.BelowNumbers.{below_pinned}
 use Rattle.ns_ram.specs.declared.read.Read.{Read}
 use Rattle.smc_abi.specs.declared.regs.Regs.{Regs}
 use Rattle.shm_registry.specs.Registered.{Registered}
@@ -22,7 +21,7 @@ use Rattle.own_model.specs.Tied.{call_in}
 use Rattle.group_model.specs.Laws.{IsSound}
 use Rattle.realm_model.specs.Realm.{Realm}
 use Rattle.kernel_model.specs.NewCall.{new_call_of}
-use Rattle.own_model.proofs.OtherEntries.{cancels_mark}
+use Rattle.own_model.proofs.Marks.{cancels_mark}
 use Rattle.group_model.specs.Group.{Group}
 use Rattle.realm_model.specs.Reading.{Notes, Watched, call_noted, entry_noted, event_noted, event_of, numbered, slot_noted}
 use Rattle.group_model.specs.declared.group_event.GroupEvent.{GroupEvent}
@@ -36,6 +35,9 @@ use Rattle.group_model.proofs.NewEntries.{new_call_taken}
 use Rattle.realm_model.proofs.OtherCalls.{Within, IfUnnoted, TakesOther, forms_other, registered_keep}
 use Rattle.group_model.proofs.OtherExits.{held_other, slot_keeps}
 use Rattle.realm_model.proofs.OtherExits.{goes_silently, tied_keeps}
+
+pub positive : (n : ℕ) → 1 ≤ n → 0 < n
+positive n le = omega arith
 
 -- other registered buffers make no difference
 pub registered_else : (members : Members) (names : Names) (slots : List ThreadSlot) (tables : Tables) (g : Group)

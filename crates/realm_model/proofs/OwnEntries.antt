@@ -16,7 +16,7 @@ use Rattle.job_model.specs.Point.{no_params}
 use Rattle.group_model.specs.Group.{Group}
 use Rattle.realm_model.specs.Reading.{Comes, Notes, event_noted, event_of, numbered, sessions_with, with_event}
 use Rattle.group_model.specs.declared.group_event.GroupEvent.{GroupEvent}
-use Rattle.group_model.proofs.OwnEntries.{one_step}
+use Rattle.group_model.proofs.MoreSteps.{one_step}
 use Rattle.realm_model.specs.Laws.{About, ComesAs, GoesAlong, OwnCallsKeepTied}
 use Rattle.group_model.proofs.NewEntries.{new_call_taken}
 use Rattle.realm_model.proofs.OtherEntries.{new_call_noted, within}

@@ -52,7 +52,15 @@ use Rattle.realm_model.proofs.Progress as progressed
 use Rattle.realm_model.proofs.Members.{opens_of}
 use Rattle.realm_model.proofs.OpenRuns.{opens_after}
 use Rattle.group_model.proofs.MoreSteps.{one_step}
-use Rattle.own_model.proofs.OwnExits.{AsksFor}
+
+-- ---- a request
+
+-- a call that asks, waits or wakes was not settled as it came in
+abbrev pub AsksFor : CallPhase → Type 0
+AsksFor (Asks job wanted payload) = Unit {0}
+AsksFor (Waits params) = Unit {0}
+AsksFor (Ends result params told (Some woken)) = Unit {0}
+AsksFor _ = ⊥
 
 -- ---- what is noted of it
 

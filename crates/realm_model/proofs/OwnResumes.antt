@@ -38,7 +38,7 @@ use Rattle.own_model.specs.Tied.{FoundAlike, PhasesAlike, call_at, call_in}
 use Rattle.group_model.specs.Group.{Group, GroupCall, comes_back, run, silent}
 use Rattle.group_model.specs.Read.{finds_it_gone}
 use Rattle.group_model.proofs.Ends.{NoOther}
-use Rattle.group_model.proofs.Room.{running_finds}
+use Rattle.realm_model.proofs.Room.{running_finds}
 use Rattle.realm_model.specs.Realm.{AllSessions, OneSession, Realm, room_of}
 use Rattle.realm_model.specs.Reading.{Logged, Notes, Watched, back_noted, entry_noted, event_noted}
 use Rattle.realm_model.specs.Reading.{resume_noted, room_noted, seen_noted, slot_noted, with_event}
@@ -65,9 +65,6 @@ use Rattle.own_model.proofs.OwnResumes.{given_nothing, asked_not, runs_seen, giv
 -- what the one waits for, the other does
 pub same_awaited : (a b : Awaited) → Some a ≡ Some b → a ≡ b
 same_awaited a b e = cc
-
-same_call : (a b : PendingCall) → Some a ≡ Some b → a ≡ b
-same_call a b e = cc
 
 same_session : (a b : Session) → Some a ≡ Some b → a ≡ b
 same_session a b e = cc

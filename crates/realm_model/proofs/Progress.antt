@@ -44,8 +44,15 @@ use Rattle.realm_model.proofs.CallChanges.{tables_change}
 use Rattle.group_model.proofs.Ends.{SessionsGo, ended_so, panicked_so, unrun_so}
 use Rattle.realm_model.proofs.Ends.{gives_back_tied}
 use Rattle.realm_model.proofs.Woken.{woken_alike}
-use Rattle.own_model.proofs.OwnProgress.{stop_steps}
-use Rattle.own_model.proofs.OwnEnds.{given_alike, killed_alike}
+use Rattle.realm_model.proofs.Ends.{given_alike, killed_alike}
+
+-- ---- its job has stopped
+
+pub stop_steps : (tables : Tables) (call : PendingCall) (why : JobStop)
+    → (after_stop tables call why).call.steps ≡ call.steps
+stop_steps tables call (steps.Ends end) = refl
+stop_steps tables call (steps.Panics code) = refl
+stop_steps tables call (steps.Asks wanted payload left) = refl
 
 -- ---- a call of the realm
 

@@ -27,6 +27,17 @@ use Rattle.realm_model.proofs.Progress.{OwnThere, Place, kept_at}
 use Rattle.realm_model.proofs.Seen.{SeesAlike}
 use Rattle.realm_model.proofs.Silent.{Silently, silently, silently_on, unanswered}
 use Rattle.realm_model.proofs.OpenRuns.{NoOpens, no_opens}
+use Rattle.job_model.specs.Job.{Job}
+
+-- ---- an instance that is gone
+
+-- one that runs finds nothing gone
+pub running_finds : (tables : Tables) (call : PendingCall) (call_kind : CallKind) (job : Job)
+    → finds_it_gone tables call call_kind (Runs job) ≡ false
+running_finds tables call kind.Open job = refl
+running_finds tables call (kind.Invoke func) job = refl
+running_finds tables call kind.Close job = refl
+running_finds tables call kind.Settled job = refl
 
 -- ---- an instance that is gone
 

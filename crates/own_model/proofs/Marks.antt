@@ -1,11 +1,19 @@
--- Which calls are in the slots, but for their marks, is as it was after a cancel.
+-- The mark of a cancelled call: a call that is there but for it, and which calls are in the slots whatever is marked.
 use Rattle.std.proofs.Common.{◌≡◌, ℕ, zero, suc, List, [], ◌∷◌, Option, Some, None, refl}
 use Rattle.std.specs.Prelude.{map}
 use Rattle.std.specs.Option.{option_map}
-use Rattle.kernel_model.specs.Kernel.{Active, Cancel, Free, Suspended, ThreadSlot}
+use Rattle.kernel_model.specs.Kernel.{Active, Cancel, Free, Suspended, ThreadSlot, PendingCall}
 use Rattle.kernel_model.specs.Kernel.{cancelled_slot, cancelled_slots}
 use Rattle.kernel_model.specs.Sound.{unmarked}
 use Rattle.own_model.specs.Tied.{call_at, call_in}
+
+-- ---- which stay tied
+
+-- a call that is there but for its mark
+pub there_but_marked : (o : Option PendingCall) (call : PendingCall) → option_map unmarked o ≡ Some (unmarked call)
+    → (now : PendingCall) × (o ≡ Some now) × (unmarked now ≡ unmarked call)
+there_but_marked None call e = absurd cc
+there_but_marked (Some now) call e = (now, refl, cc)
 
 -- ---- cancelled calls
 
