@@ -135,6 +135,14 @@ def check_examples(bench, comparison):
     comparison.same("what is kept of them", (bench.folder / "failed-cores").exists(), False)
 
 
+def check_options(bench, comparison):
+    """An option behind which nothing stands is refused before any test."""
+    for option in ("--core-program", "--core-kept"):
+        for words in ([f"{option}="], [option, ""]):
+            status, told = bench.pytest("-q", *words, "examples")
+            comparison.same(f"{words}", (status, f"nothing stands behind {option}" in told, " passed" in told), (4, True, False))
+
+
 def check_unbooted(bench, comparison):
     """Of a test whose core can't be booted the report has one line that says why, and no traceback; settings stand in the place of a file's."""
     tests = [f"\n@pytest.mark.boot({marker})\ndef test_{number}(core):\n    pass\n" for number, marker in enumerate(WRONG_MARKERS)]
@@ -202,7 +210,7 @@ def main(words):
         comparison.same("pip install", told, None)
         comparison.same("what pip leaves", sorted(bench.folder.iterdir()), [path for path in before if path.name != "tulgexar"])
         if told is None:
-            for check in (check_commands, check_examples, check_unbooted, check_unkept, check_wrong_cores):
+            for check in (check_commands, check_examples, check_options, check_unbooted, check_unkept, check_wrong_cores):
                 check(bench, comparison)
     print(f"{comparison.compared} compared, {comparison.differing} differ")
     return 1 if comparison.differing else 0

@@ -178,7 +178,15 @@ def pytest_addoption(parser: pytest.Parser) -> None:
     group.addoption("--core-kept", metavar="FOLDER", default="failed-cores", help="where what was said with cores of failed tests is kept")
 
 
+def refuse_empty(config: pytest.Config) -> None:
+    """Refuses an option behind which nothing stands: a variable of a shell may be empty."""
+    for option in ("--core-program", "--core-kept"):
+        if config.getoption(option) == "":
+            raise pytest.UsageError(f"nothing stands behind {option}")
+
+
 def pytest_configure(config: pytest.Config) -> None:
+    refuse_empty(config)
     config.addinivalue_line("markers", "boot(FILE or settings): what the fixtures core and cores boot a core with")
     config.stash[CORES] = Cores(config)
 
