@@ -14,6 +14,7 @@ UUID = "11111111-2222-3333-4444-555555555555"
 CALL = "smc 0 1 bf00ff01 0 0 0 0 0 0 0\n"
 UID = "ret 0 384fb3e0 e7f811e3 af630002 a5d5c51b 00000000 00000000 00000000 00000000\n"
 CLIENT_BOOT = "boot 1 2 1\n"
+ANSWERED, HALF = "ret 0 " + " ".join(["00000000"] * 8), "boot 1 1 1\nsmc 0 1 b200000f"
 SHORT = "smc 0 1 b200000f\n"
 ASKED = "#= : GET_THREAD_COUNT\n"
 COUNTED = "smc 0 1 b200000f 0 0 0 0 0 0 0\n"
@@ -161,6 +162,15 @@ FILES = {
     "note.trace": BOOT + COUNTED + "#= = OK\n",
     "other_note.trace": BOOT + COUNTED + "#= = OK, threads 2\n",
     "rest_note.trace": BOOT + COUNTED + "#= = ..\n",
+    "by_two.trace": "boot 2 1 1\n" + COUNTED + COUNTED.replace("smc 0", "smc 1"),
+    "by_two.cut": f"cpu 0\n{ANSWERED} at 0 1\ncpu 1\n",
+    "by_two.block": f"cpu 0\n{ANSWERED} at 0 1\n",
+    "by_two.line": f"cpu 0\n{ANSWERED} at\n",
+    "by_two.places": f"cpu 0\n{ANSWERED} at 0 1\ncpu 1\n{ANSWERED.replace('ret 0', 'ret 1')} at 1 2\n",
+    "entered.cut": "cpu 0\ncpu 1\n",
+    "entered_by_two.trace": "boot 2 1 1\n" + "".join(COUNTED.replace("smc 0", f"enter {cpu}") + f"leave {cpu}\n" for cpu in (0, 1)),
+    "call.trace": BOOT + "smc 0 1 32000004 0 40000000 0 0 0 0 0\n",
+    "high_thread.out": "ret 0 ffff0000 00001000 00000000 7fffffff" + 4 * " 00000000" + "\n",
 }
 EXECUTABLE = ("sleeps", "quiet", "text_program", "babbles", "ends", "legal_killed", "legal_five", "legal_more", "same_killed", "ends_badly", "ends_killed")
 
@@ -269,6 +279,12 @@ CHARTS = [
     Mistake("chart.py: another output", "chart.py good.trace other.out", 1, "good.trace:2: this line doesn't print: ret 1"),
     Mistake("chart.py: no output", "chart.py good.trace cut.out", 1, "good.trace:2: the output ends"),
     Mistake("chart.py: no output, and the trace comes on standard input", "chart.py - cut.out", 1, "chart.py: -:2: the output ends", BOOT + CALL),
+    Mistake("chart.py: an output of threads that is cut", "chart.py by_two.trace by_two.cut", 1, "chart.py: by_two.trace:3: the output ends before what this line prints"),
+    Mistake("chart.py: a block of threads is missing", "chart.py by_two.trace by_two.block", 1, "chart.py: the output isn't a block for each processor"),
+    Mistake("chart.py: an output of threads that is cut in a line", "chart.py by_two.trace by_two.line", 1, "chart.py: (by_two.trace:2: this line doesn't print|the output isn't a block)"),
+    Mistake("chart.py: an output of threads with a place twice", "chart.py by_two.trace by_two.places", 1, "chart.py: the places of the output aren't those of one history"),
+    Mistake("chart.py: entries by threads, and no answer", "chart.py entered_by_two.trace entered.cut", 1, "chart.py: entered_by_two.trace:3: the output ends"),
+    Mistake("chart.py: a thread that isn't there", "chart.py call.trace high_thread.out", 1, "chart.py: the output names thread 2147483647, and there are 1"),
     Mistake("chart.py: swapped", "chart.py good.out good.trace", "12", "swapped|OUTPUT.*is a trace|is an output"),
     Mistake("chart.py: a file that can't be written", "chart.py --perfetto nowhere/x good.trace good.out", 2, "nowhere/x: No such file"),
     Mistake("chart.py: a client's script is told what draws it", "chart.py program=$RUN good.client", "12", "client_trace.py"),

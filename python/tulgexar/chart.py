@@ -25,9 +25,10 @@ import json
 import re
 import sys
 
-from tulgexar import calls, formats, plays, program, story
+from tulgexar import calls, description, formats, plays, program, story
 from tulgexar.words import BadWords, behind, plain, refuse_options, run, text_of, write_text
 
+MOST_THREADS = description.MOST["threads"]
 LEFT, INSIDE, OUTSIDE, BAND = 76, 96, 16, 980
 LANE, SLOT, TITLE, GAP = 74, 22, 16, 22
 COLORS = {
@@ -310,9 +311,18 @@ def told_by(trace, output):
     plays.refuse_swapped(trace, output)
     refuse_refused(output)
     refuse_none(trace)
-    if not output.startswith("cpu "):
-        plays.lay_out(trace, output)
-    return story.Story(story.visits_of(trace, output), story.threads_of(trace))
+    plays.lay_out(trace, output)
+    threads = story.threads_of(trace)
+    told = story.Story(story.visits_of(trace, output), threads)
+    refuse_thread(told, min(threads or MOST_THREADS, MOST_THREADS))
+    return told
+
+
+def refuse_thread(told, count):
+    """A Mismatch where a call is in a thread that the core hasn't."""
+    beyond = [call.slot for call in told.calls if call.slot >= count]
+    if beyond:
+        raise plays.Mismatch(f"the output names thread {beyond[0]}, and there are {count}")
 
 
 def refused(error):

@@ -73,10 +73,18 @@ class Call:
 def visits_of(trace, output):
     """The visits of a play, in the order of their entries; of `run` or of `threads`."""
     if output.startswith("cpu "):
-        return sorted(threads_visits(trace, output), key=lambda visit: visit.entry)
+        return in_history(threads_visits(trace, output))
     walk = Walk(iter(range(2**32)))
     walk.play(trace, collections.deque(output.splitlines()))
     return walk.visits
+
+
+def in_history(visits):
+    """Visits in the order of their entries. A Mismatch where their places aren't those of one history."""
+    places = sorted(place for visit in visits for place in (visit.entry, visit.exit))
+    if places != list(range(len(places))) or any(visit.entry > visit.exit for visit in visits):
+        raise plays.Mismatch("the places of the output aren't those of one history, in which each stands once, and an exit behind its entry")
+    return sorted(visits, key=lambda visit: visit.entry)
 
 
 def threads_of(trace):
@@ -93,7 +101,7 @@ def threads_visits(trace, output):
         own = [line for line in trace.splitlines() if line.split(" ")[0] in ("mem", "boot") or line.split(" ")[1:2] == [cpu]]
         walk = Walk(None)
         walk.play("\n".join(own), collections.deque(line for line in lines if not line.startswith("full ")))
-        visits += walk.visits
+        visits += [visit for visit in walk.visits if visit.answered]
     return visits
 
 
