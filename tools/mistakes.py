@@ -171,6 +171,8 @@ FILES = {
     "entered_by_two.trace": "boot 2 1 1\n" + "".join(COUNTED.replace("smc 0", f"enter {cpu}") + f"leave {cpu}\n" for cpu in (0, 1)),
     "call.trace": BOOT + "smc 0 1 32000004 0 40000000 0 0 0 0 0\n",
     "high_thread.out": "ret 0 ffff0000 00001000 00000000 7fffffff" + 4 * " 00000000" + "\n",
+    "dashes/\u2013.trace": BOOT + COUNTED + "#= ret 0 EBUSY ..\n",
+    "dashes/\u2013.s": "$TOP/examples/applications/rounds.s",
 }
 EXECUTABLE = ("sleeps", "quiet", "text_program", "babbles", "ends", "legal_killed", "legal_five", "legal_more", "same_killed", "ends_badly", "ends_killed")
 
@@ -309,6 +311,7 @@ IMAGES = [
     Mistake("image.py: nothing behind map=", "image.py map=", 2, "nothing stands behind map=", "4f"),
     Mistake("image.py: a map that is none", "image.py map=good.trace", 2, "map", "4f"),
     Mistake("image.py: junk", "image.py", "12", "digits", "\x1b[2J\x00"),
+    Mistake("step.py: a source whose name has a dash", "step.py dashes/\u2013.s open", 0, r"-- \w+ \\u2013.s:[0-9]+"),
     Mistake("step.py: no such image", "step.py no_such open", 2, "No such file"),
     Mistake("step.py: the source of an application", "step.py rounds.s open", "02", "^open begins|asm"),
     Mistake("step.py: a source with its labels", "step.py rounds.s open", 0, "^open begins[\\s\\S]*-- \\w+ rounds.s:[0-9]+"),
@@ -384,6 +387,8 @@ TRACED = [
 BENCHES = [
     Mistake("bench_test.py: a misspelled word", "bench_test.py progam=$RUN three.trace", 2, "progam=\S* isn't served here"),
     Mistake("bench_test.py: no words", "bench_test.py", 2, "no FILE or FOLDER is left to run"),
+    Mistake("bench_test.py: a file's name has a dash", "bench_test.py program=$RUN dashes/\u2013.trace", 1, r"^dashes/\\u2013.trace: failed, 1 compared\ndashes/\\u2013.trace:2: smc"),
+    Mistake("bench_test.py: a folder with such a file, and its outcome", "sh -c '$TOOLS/bench_test.py program=$RUN --junit dash.xml dashes; exec grep -c =.\u2013.trace dash.xml'", 0, r'dashes/\\u2013.trace:2: smc[\s\S]*\n1\n$'),
     Mistake("bench_test.py: no such file", "bench_test.py program=$RUN no_such.trace", 2, "No such file"),
     Mistake("bench_test.py: a name that is no test's", "bench_test.py program=$RUN good.out", 2, "is no test.*\\.trace"),
     Mistake("bench_test.py: a folder without tests", "bench_test.py program=$RUN no_scripts", 5, r"no_scripts has no test: no name there ends with one of \.trace"),

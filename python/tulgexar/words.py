@@ -70,7 +70,7 @@ def lines_of(text):
 def write_text(name, text):
     """Writes the text of a file."""
     try:
-        pathlib.Path(name).write_text(text, encoding="utf-8")
+        pathlib.Path(name).write_text(text, encoding="utf-8", errors="backslashreplace")
     except OSError as error:
         raise BadWords(f"{name}: {error.strerror}") from error
 
@@ -115,8 +115,9 @@ def print_no_more():
 def run(main, doc, words=None):
     """Ends with the status of a tool's main over the words of its call, or, at words that it doesn't serve, with the usage line of
     doc, and 2. Where help is asked for, doc is printed. Where nobody reads what is printed, it ends without a word, with UNREAD; a pipe to
-    another program that has ended is its user's to tell (live.Over)."""
-    sys.stdout.reconfigure(encoding="latin-1")
+    another program that has ended is its user's to tell (live.Over). What is printed has a byte for each character, as the files have that are
+    read; a character of a file's name that none of these bytes is, stands as \\uNNNN."""
+    sys.stdout.reconfigure(encoding="latin-1", errors="backslashreplace")
     sys.stderr.reconfigure(errors="backslashreplace")
     words = sys.argv[1:] if words is None else words
     try:
