@@ -711,7 +711,7 @@ def check_conversations(comparison):
     supplicant; a prompt's lines that aren't of their form."""
     for case in conversations.cases():
         turns = [(line, answer) for line, answer in case.turns if not conversations.asks(line)]
-        lines = [line for line, answer in turns if answer[-1] == "ok"]
+        lines = [line for line, answer in turns if answer[-1] == "ok" and live.is_of_trace(line)]
         printed = [told for _, answer in turns for told in answer[:-1] if not conversations.is_watched(told)]
         entries = laid_out("".join(f"{line}\n" for line in lines), "".join(f"{line}\n" for line in printed))
         told = [entry.printed for entry in entries or () if entry.printed]

@@ -15,7 +15,7 @@ Status: 0 where nothing is left over, 1 where the output isn't that of the trace
 usage: annotate.py TRACE OUTPUT | FOLDER OUTPUT | JOURNAL
 """
 
-import pathlib
+import os
 import re
 import sys
 
@@ -49,7 +49,7 @@ def annotated(entries):
 def main(words):
     if len(words) not in (1, 2):
         raise BadWords()
-    if len(words) == 1 and pathlib.Path(words[0]).is_dir():
+    if len(words) == 1 and os.path.isdir(words[0]):
         raise BadWords(f"{words[0]} is a folder: behind it OUTPUT is wanted, which `rt try --cases {words[0]} -- run` has printed")
     try:
         entries = plays.of_files(*words) if len(words) == 2 else journal.told(text_of(words[0]).encode("latin-1"))

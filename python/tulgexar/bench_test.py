@@ -38,6 +38,7 @@ import collections
 import concurrent.futures
 import copy
 import json
+import os
 import pathlib
 import re
 import sys
@@ -46,7 +47,7 @@ import xml.etree.ElementTree
 
 from tulgexar import client, explain, journal, lift, live, places, plays, program, wanted_lines
 from tulgexar.wanted_lines import Failure, Printed
-from tulgexar.words import BadWords, behind, lines_of, number, plain, print_no_more, refuse_options, run, text_of, write_text
+from tulgexar.words import BadWords, behind, lines_of, number, paths_in, plain, print_no_more, refuse_absent, refuse_options, run, text_of, write_text
 
 WORDS = {".trace": "run", ".script": "run", ".threads": "threads", ".signals": "notify", ".client": "client", ".lines": None, ".journal": "audit"}
 NO_CASE = 5
@@ -150,7 +151,7 @@ class Explained:
             entries = plays.lay_out(self.trace, "".join(f"{part}\n" for part in printed))
         except plays.Mismatch:
             return None
-        return next(entry.note for entry in entries if entry.number == self.number)
+        return next((entry.note for entry in entries if entry.number == self.number), None)  # none behind a line full
 
 
 def with_panics(failures, path, text, trace, done):
@@ -328,28 +329,23 @@ def paths_of(names):
     """The files that the words name, those of a folder and of the folders in it in the order of their names."""
     for name in names:
         path = pathlib.Path(name)
-        if path.is_dir():
+        if os.path.isdir(name):
             files = [str(file) for file in files_in(path) if file.suffix in WORDS and not is_output(file)]
             if not files:
                 print(f"{name} has no test: no name there ends with one of {' '.join(WORDS)}", file=sys.stderr)
             yield from files
-        elif not path.is_file():
-            raise BadWords(f"{name}: No such file or directory")
-        elif path.suffix not in WORDS:
+        elif path.suffix not in WORDS and os.path.exists(name):
             raise BadWords(f"{name} is no test: its name ends with none of {' '.join(WORDS)}")
         else:
+            refuse_absent(name)
             yield name
 
 
 def files_in(folder, seen=()):
     """The files of a folder and of the folders in it, but for those whose names begin with a dot, and those around it."""
-    try:
-        paths = sorted(folder.iterdir())
-    except OSError as error:
-        raise BadWords(f"{folder}: {error.strerror}") from error
     seen = (*seen, folder.resolve())
-    for path in paths:
-        if not path.is_dir():
+    for path in paths_in(folder):
+        if not os.path.isdir(path):
             yield path
         elif not path.name.startswith(".") and path.resolve() not in seen:
             yield from files_in(path, seen)
@@ -357,7 +353,7 @@ def files_in(folder, seen=()):
 
 def is_output(path):
     """Whether a file is what `threads` has printed of the trace beside it: a test begins otherwise."""
-    return path.suffix == ".threads" and path.with_suffix(".trace").is_file() and text_of(path).startswith(("cpu ", "bad trace "))
+    return path.suffix == ".threads" and os.path.isfile(path.with_suffix(".trace")) and text_of(path).startswith(("cpu ", "bad trace "))
 
 
 def cases_of(paths, programs, jobs):

@@ -10,11 +10,12 @@ FILE, the one that TULGEXAR_RUN names, or what `rt run` has built in crates/opte
 usage: client_test.py [program=FILE] SCRIPT|FOLDER..
 """
 
+import os
 import pathlib
 import sys
 
 from tulgexar import bench_test, program
-from tulgexar.words import BadWords, refuse_options, run
+from tulgexar.words import BadWords, refuse_absent, refuse_options, run
 
 SUFFIX = ".client"
 
@@ -23,7 +24,7 @@ def scripts_of(names):
     """The scripts that the words name, those of a folder in the order of their names."""
     for name in names:
         folder = pathlib.Path(name)
-        yield from (str(path) for path in bench_test.files_in(folder) if path.suffix == SUFFIX) if folder.is_dir() else [name]
+        yield from (str(path) for path in bench_test.files_in(folder) if path.suffix == SUFFIX) if os.path.isdir(name) else [name]
 
 
 def main(words):
@@ -34,8 +35,8 @@ def main(words):
         raise BadWords()
     programs = bench_test.Programs(program.found("optee_run", file), None)
     for name in words:
-        if name != "-" and not pathlib.Path(name).exists():
-            raise BadWords(f"{name}: No such file or directory")
+        if name != "-":
+            refuse_absent(name)
     scripts = list(scripts_of(words))
     if not scripts:
         print(f"no script was found: their names end with {SUFFIX}", file=sys.stderr)

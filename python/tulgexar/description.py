@@ -10,7 +10,7 @@ import pathlib
 import re
 from collections.abc import Iterator
 
-from tulgexar.words import BadWords
+from tulgexar.words import BadWords, cause_of
 
 UUID = re.compile("[0-9a-f]{8}(-[0-9a-f]{4}){3}-[0-9a-f]{12}", re.IGNORECASE)
 HEXADECIMAL = re.compile("[0-9a-f]*", re.IGNORECASE)
@@ -90,8 +90,8 @@ class Reading:
         path = self.folder / file
         try:
             text = path.read_bytes().decode("latin-1")
-        except OSError as error:
-            raise Wrong("an image that can't be read", f"{path}: {error.strerror}") from None
+        except (OSError, ValueError) as error:
+            raise Wrong("an image that can't be read", f"{path}: {cause_of(error)}") from None
         if not text:
             raise Wrong("an image that can't be read", f"{path} is empty")
         self.images[name] = digits_of(re.split("[\r\n]", text)[0], path)
@@ -161,7 +161,7 @@ FORMS = {
 
 def number(word, setting):
     """The number of a setting in decimal."""
-    if not re.fullmatch("[0-9]+", word) or not 1 <= int(word) <= MOST[setting]:
+    if not re.fullmatch("[0-9]{1,40}", word) or not 1 <= int(word) <= MOST[setting]:
         raise Wrong("a number that isn't in its limits", f"{word} isn't one from 1 to {MOST[setting]}")
     return int(word)
 
@@ -187,7 +187,7 @@ def is_key(digits: object) -> bool:
 
 def is_open_folder(path):
     """Whether files may be made in a folder."""
-    return path.is_dir() and os.access(path, os.W_OK | os.X_OK)
+    return os.path.isdir(path) and os.access(path, os.W_OK | os.X_OK)
 
 
 def can_hold_files(path):
@@ -196,7 +196,7 @@ def can_hold_files(path):
         path.lstat()
     except FileNotFoundError:
         return is_open_folder(path.parent)
-    except OSError:
+    except (OSError, ValueError):
         return False
     return is_open_folder(path)
 
@@ -218,8 +218,8 @@ def read(path: str | os.PathLike[str]) -> Description:
     path = pathlib.Path(path)
     try:
         text = path.read_bytes().decode("latin-1")
-    except OSError as error:
-        raise Fault(f"{path}: {error.strerror}") from error
+    except (OSError, ValueError) as error:
+        raise Fault(f"{path}: {cause_of(error)}") from error
     reading = Reading(path)
     for place, line in enumerate(text.split("\n"), 1):
         reading.place = place

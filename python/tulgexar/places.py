@@ -6,6 +6,7 @@ or in brackets what was made of no source: it holds up to the next line's place.
 """
 
 import bisect
+import os
 import pathlib
 import re
 
@@ -23,7 +24,7 @@ class Map:
         self.places, self.texts = [], []
         for line in text.splitlines():
             place, _, told = line.partition(" ")
-            if not re.fullmatch("0|[1-9][0-9]*", place) or not told or self.places and int(place) <= self.places[-1]:
+            if not re.fullmatch("0|[1-9][0-9]{,9}", place) or not told or self.places and int(place) <= self.places[-1]:
                 raise BadWords(f"`{line[:60]}` is no line of a map")
             self.places.append(int(place))
             self.texts.append(told)
@@ -56,7 +57,7 @@ def map_of(name):
 def map_beside(name):
     """The map beside an image's file, or an empty one."""
     file = pathlib.Path(name).with_suffix(".map")
-    return map_of(file) if name != "-" and file.is_file() else Map()
+    return map_of(file) if name != "-" and os.path.isfile(file) else Map()
 
 
 def maps_of(text, folder):

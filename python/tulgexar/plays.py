@@ -1,11 +1,12 @@
 """Lays what a play has printed beside its trace: which line an item printed, and what it says. It isn't run by itself."""
 
 import collections
+import os
 import pathlib
 import re
 
 from tulgexar import calls, formats, lift, messages
-from tulgexar.words import located, text_of
+from tulgexar.words import located, paths_in, text_of
 
 # A line of the trace; what it printed, and what that says in words; the name of an answer; the result of a call, as
 # (result, origin), where the line shows one; what is said of a call as it enters.
@@ -16,7 +17,9 @@ HEADER = ("boot", "ta", "mem", "key")
 CLIENT_CALLS = ("open", "invoke", "close")  # the calls of a client's script
 ITEMS = {*formats.LINES, "signal"} - {*HEADER}  # of a trace, which no client's script has
 JOURNAL = "OTTJ"  # begins one
+FORMLESS = "this line isn't of its form"
 OUTPUTS = re.compile("(ret|mem|bad trace|cpu|open|invoke|close) ")  # what a play prints begins so
+CLIENT_OUTPUT = "v:[0-9a-f]{8}:[0-9a-f]{8}|m:[0-9]+:(?:[0-9a-f]{2})*"  # of a client's call
 RET = r"ret {}((?: [0-9a-f]{{8}}){{8}})"
 
 
@@ -42,11 +45,11 @@ class Mismatch(Exception):
 def of_files(trace, output):
     """The entries of a trace and its output; or of a folder of traces, and what `rt try --cases` has printed for it."""
     folder, printed = pathlib.Path(trace), text_of(output)
-    if not folder.is_dir():
+    if not os.path.isdir(trace):
         return laid_out_file(trace, printed)
     before, *cases = re.split("^== ", printed, flags=re.MULTILINE)
     named = {name: part for name, _, part in (case.partition("\n") for case in cases)}
-    if before or set(named) != {file.name for file in folder.iterdir()}:
+    if before or set(named) != {path.name for path in paths_in(folder)}:
         raise Mismatch(f"the output isn't a line `== NAME` and what was printed for each file of {trace}")
     entries = []
     for name, part in named.items():
@@ -69,7 +72,9 @@ def lay_out(trace, output):
     lines = list(enumerate(trace.removesuffix("\n").split("\n") if trace else [], 1))
     for place, line in lines:
         refuse_script(place, line)
-    bad = re.fullmatch(r"bad trace (\d+) (\w+)\n", output)
+    bad = re.fullmatch(r"bad trace ([0-9]{1,9}) (\w+)\n", output)
+    if bad and not 1 <= int(bad[1]) <= len(lines) + 1:
+        raise Mismatch(f"the trace has no line {bad[1]}, and the output is {output[:-1]}")
     if bad:
         return list(with_fault(lines, int(bad[1]), output[:-1], bad[2]))
     if output.startswith("cpu "):
@@ -106,11 +111,20 @@ def refuse_swapped(trace, output):
         raise Mismatch("OUTPUT is a trace, and TRACE what was printed: they are swapped")
 
 
+def refuse_formless(number, text):
+    """A Mismatch where a line is none of a trace, with or without signals, or of a client's script."""
+    words = text.split(" ")
+    is_item = words[0] in lift.ITEMS and formats.LINES.get(words[0], len(words)) == len(words)
+    if text and not text.startswith("#") and not is_item:
+        raise Mismatch(FORMLESS, number)
+
+
 def laid(play, lines, printed):
     """The entries of lines, which use up what was printed."""
     entries = []
     try:
         for number, text in lines:
+            refuse_formless(number, text)
             entries.append(play.entry(number, text, printed))
         if printed:
             raise Mismatch(f"behind the last line of the trace is left: {printed[0]}")
@@ -125,8 +139,8 @@ def in_blocks(lines, output):
     header, own = parted(lines)
     entries = laid(Play(), header, collections.deque())
     blocks = re.split("^cpu ", output, flags=re.MULTILINE)[1:]
-    cpus = next((text.split(" ")[1] for _, text in header if text.startswith("boot ")), "0")
-    if [block.partition("\n")[0] for block in blocks] != [str(cpu) for cpu in range(int(cpus))]:
+    cpus, threads = booted_by(header)
+    if [block.partition("\n")[0] for block in blocks] != [str(cpu) for cpu in range(cpus)]:
         raise Mismatch("the output isn't a block for each processor")
     visits = []
     for block in blocks:
@@ -139,8 +153,18 @@ def in_blocks(lines, output):
         if full:
             entries.append(Entry(0, "", full, "the next entry would have read too much: the processor does nothing more"))
         visits += play.threads.visits
-    threads = next((int(text.split(" ")[2]) for _, text in header if text.startswith("boot ")), None)
     return with_calls(entries, visits, threads)
+
+
+def booted_by(header):
+    """How many processors and threads the lines of a header boot a core with; none, and None, where no line does."""
+    for number, text in header:
+        if text.startswith("boot "):
+            boot = re.fullmatch("boot ([0-9]{1,5}) ([0-9]{1,5}) [0-9]+", text)
+            if not boot:
+                raise Mismatch(FORMLESS, number)
+            return int(boot[1]), int(boot[2])
+    return 0, None
 
 
 def with_calls(entries, visits, count):
@@ -172,6 +196,8 @@ def parted(lines):
         waiting.append((number, text))
         if text.startswith("#") or not text:
             continue
+        if words[0] not in HEADER and len(words) == 1:
+            raise Mismatch(FORMLESS, number)
         (header if words[0] in HEADER else own[words[1]]).extend(waiting)
         waiting = []
     return header, own
@@ -254,8 +280,8 @@ class Play:
             return Entry(number, text)
         try:
             return Entry(number, text, *self.item(number, item, operands, printed))
-        except (ValueError, KeyError) as error:
-            raise Mismatch("this line isn't of its form", number) from error
+        except (ValueError, LookupError, OverflowError) as error:
+            raise Mismatch(FORMLESS, number) from error
 
     def item(self, number, item, operands, printed):
         """What an item has printed, and what that says, as further fields of an Entry."""
@@ -341,7 +367,7 @@ def said_of_value(value, bits):
 def client_call(number, words, printed):
     """What a call of a client's script has printed, and what that says, as further fields of an Entry."""
     head = " ".join(re.escape(word) for word in words[:2])
-    line = take(printed, number, f"{head} ([0-9a-f]{{8}}) ([0-9a-f]{{8}})((?: [vm]:[0-9a-f:]*)*)")
+    line = take(printed, number, f"{head} ([0-9a-f]{{8}}) ([0-9a-f]{{8}})((?: (?:{CLIENT_OUTPUT}))*)")
     result, origin = (int(line[field], 16) for field in (1, 2))
     result, origin = messages.result_name(result), messages.origin_name(origin)
     outputs = [messages.output_note(word) for word in line[3].split()]

@@ -29,8 +29,8 @@ def found(name, file=None):
     how = f"`rt run` in crates/{name} builds one, and program=FILE or {VARIABLES[name]} names another"
     if file is None and not CRATES.is_dir():
         raise BadWords(f"no program is named, and there is no clone around: {how}")
-    path = pathlib.Path(file).resolve() if file else CRATES / name / "out" / name
-    if not path.is_file():
+    path = pathlib.Path(os.path.realpath(file)) if file else CRATES / name / "out" / name
+    if not os.path.isfile(path):
         raise BadWords(f"{path} is no program: {how}")
     if not os.access(path, os.X_OK):
         raise BadWords(f"{path} is no program: it isn't executable")

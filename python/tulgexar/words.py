@@ -12,6 +12,7 @@ if sys.version_info < (3, 10):
 CONTROLS = {code: f"\\x{code:02x}" for code in (*range(0x20), *range(0x7F, 0xA0)) if chr(code) not in "\t\n"}  # C0, and DEL with C1
 HELP = ("--help", "-h")
 UNREAD = 128 + signal.SIGPIPE  # the status of a tool whose output nobody reads, as a shell has it
+MOST_DIGITS = 40  # of a number in decimal
 
 
 class BadWords(Exception):
@@ -22,6 +23,8 @@ def number(word, bits=32):
     """A number in decimal digits, or in hexadecimal ones behind 0x."""
     if not re.fullmatch("0|[1-9][0-9]*|0x[0-9a-fA-F]+", word):
         raise BadWords(f"{word} is no number: decimal digits, or 0x and hexadecimal ones")
+    if len(word) > MOST_DIGITS:
+        raise BadWords(f"{word[:MOST_DIGITS]}.. isn't below 2^{bits}")
     return below(int(word, 0), bits, word)
 
 
@@ -54,12 +57,34 @@ def uuid(word):
 
 def text_of(name):
     """The text of a file; `-` is standard input."""
-    if name == "-":
-        return sys.stdin.buffer.read().decode("latin-1")
+    if not str(name):
+        raise BadWords("a word is empty where the name of a file is wanted")
     try:
-        return pathlib.Path(name).read_bytes().decode("latin-1")
+        data = sys.stdin.buffer.read() if name == "-" else pathlib.Path(name).read_bytes()
+    except (OSError, ValueError) as error:
+        raise BadWords(f"{name}: {cause_of(error)}") from error
+    return data.decode("latin-1")
+
+
+def cause_of(error):
+    """Why a name can't be used, by the error with which the system or Python answers."""
+    return getattr(error, "strerror", None) or "a name that has a zero byte"
+
+
+def refuse_absent(name):
+    """Refuses the name of a file or a folder that isn't there, or can't be reached."""
+    try:
+        os.stat(name)
+    except (OSError, ValueError) as error:
+        raise BadWords(f"{name}: {cause_of(error)}") from error
+
+
+def paths_in(folder):
+    """The paths of what lies in a folder, in the order of their names."""
+    try:
+        return sorted(pathlib.Path(folder).iterdir())
     except OSError as error:
-        raise BadWords(f"{name}: {error.strerror}") from error
+        raise BadWords(f"{folder}: {error.strerror}") from error
 
 
 def lines_of(text):
@@ -89,9 +114,11 @@ def behind(words, option, what="a file"):
 
 
 def refuse_options(words, served):
-    """Refuses a word that looks like an option, and is no file: those that are served come first, and once."""
+    """Refuses a word that looks like an option, and is no file: those that are served come first, and once; and an empty word."""
     for word in words:
-        if re.match("-.|[a-z_]+=", word) and not pathlib.Path(word).exists():
+        if not word:
+            raise BadWords("a word is empty where the name of a file is wanted")
+        if re.match("-.|[a-z_]+=", word) and not os.path.exists(word):
             raise BadWords(f"{word} isn't served here, or stands twice: the options are {served}")
 
 
