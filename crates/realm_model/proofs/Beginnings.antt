@@ -25,7 +25,9 @@ use Rattle.group_model.specs.declared.group_event.GroupEvent.{GroupEvent}
 use Rattle.group_model.specs.declared.group_reply.GroupReply.{GroupReply}
 use Rattle.realm_model.specs.Histories.{IsRealmOf, SameRealmBeginningsSameReplies}
 use Rattle.realm_model.specs.Laws.{events_in, replies_in}
-use Rattle.realm_model.specs.Reading.{Comes, Logged, Notes, RealmEvent, TurnedAway, event_noted, event_of, no_notes, noted}
+use Rattle.realm_model.specs.Reading.{Logged, Notes, event_noted, event_of, no_notes, noted}
+use Rattle.realm_model.specs.declared.realm_event.RealmEvent.{RealmEvent}
+use Rattle.realm_model.specs.declared.realm_event.RealmEvent.TheVariants.{Comes, TurnedAway}
 use Rattle.realm_model.specs.Reading.{noted_from, number_of, realm_events, realm_replies, settled_event, settled_event_in}
 use Rattle.realm_model.specs.Reading.{with_event}
 use Rattle.realm_model.specs.Realm.{AllSessions, OneSession, Realm, open_of}

@@ -18,7 +18,8 @@ use Rattle.own_model.specs.Own.{Entering, is_limit, is_of_client}
 use Rattle.own_model.specs.declared.own_reply.OwnReply.TheVariants as reply
 use Rattle.group_model.specs.Group.{Group, plain}
 use Rattle.realm_model.specs.Realm.{client_of}
-use Rattle.realm_model.specs.Reading.{Notes, TurnedAway, Watched, entry_noted, event_noted, fixed_noted, out_noted}
+use Rattle.realm_model.specs.Reading.{Notes, Watched, entry_noted, event_noted, fixed_noted, out_noted}
+use Rattle.realm_model.specs.declared.realm_event.RealmEvent.TheVariants.{TurnedAway}
 use Rattle.realm_model.specs.Laws.{About, AreTied, FixedKeepTied, GoesAlong, GoesAlongWith}
 use Rattle.realm_model.proofs.OtherExits.{goes_silently}
 

@@ -11,7 +11,9 @@ use Rattle.group_model.specs.Isolation.{SameGroupBeginningsSameReplies, SameGrou
 use Rattle.group_model.specs.Laws as group
 use Rattle.group_model.specs.Read as read
 use Rattle.group_model.specs.declared.group_reply.GroupReply.{GroupReply}
-use Rattle.realm_model.specs.Reading.{Comes, Logged, RealmEvent, TurnedAway, noted, of_machine}
+use Rattle.realm_model.specs.Reading.{Logged, noted, of_machine}
+use Rattle.realm_model.specs.declared.realm_event.RealmEvent.{RealmEvent}
+use Rattle.realm_model.specs.declared.realm_event.RealmEvent.TheVariants.{Comes, TurnedAway}
 use Rattle.realm_model.specs.Realm.{AllSessions}
 use Rattle.realm_model.proofs.Beginnings.{AreTold, Tells, both_tell, events_of, first_more, logs_told, replies_of, second_more, two_tell}
 use Rattle.realm_model.proofs.Groups.{groups_are_realms}

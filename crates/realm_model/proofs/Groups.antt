@@ -31,7 +31,8 @@ use Rattle.group_model.specs.declared.group_event.GroupEvent.{GroupEvent}
 use Rattle.group_model.specs.declared.group_event.GroupEvent.TheVariants.{Out, Room, Seen}
 use Rattle.group_model.specs.declared.group_reply.GroupReply.{GroupReply}
 use Rattle.realm_model.specs.Realm.{AllSessions}
-use Rattle.realm_model.specs.Reading.{Comes, Notes, TurnedAway, Watched, back_noted, entry_noted, errand_noted}
+use Rattle.realm_model.specs.Reading.{Notes, Watched, back_noted, entry_noted, errand_noted}
+use Rattle.realm_model.specs.declared.realm_event.RealmEvent.TheVariants.{Comes, TurnedAway}
 use Rattle.realm_model.specs.Reading.{event_noted, event_of, exit_noted, noted, noted_from, numbered, of_machine, opened_in}
 use Rattle.realm_model.specs.Reading.{out_noted, resume_noted, room_noted, seen_noted, sessions_with, settled_event}
 use Rattle.realm_model.specs.Reading.{settled_event_in, slot_noted, uuid_by, with_event, with_reply}

@@ -34,7 +34,9 @@ use Rattle.group_model.specs.Group.{plain}
 use Rattle.own_model.specs.Own.{input_of}
 use Rattle.own_model.specs.declared.own_reply.OwnReply.TheVariants as reply
 use Rattle.realm_model.specs.Realm.{Realm, client_of, room_of}
-use Rattle.realm_model.specs.Reading.{Comes, Logged, RealmEvent, TurnedAway, Notes, Watched, back_noted, entry_noted, event_noted, event_of, exit_noted, fixed_noted}
+use Rattle.realm_model.specs.Reading.{Logged, Notes, Watched, back_noted, entry_noted, event_noted, event_of, exit_noted, fixed_noted}
+use Rattle.realm_model.specs.declared.realm_event.RealmEvent.{RealmEvent}
+use Rattle.realm_model.specs.declared.realm_event.RealmEvent.TheVariants.{Comes, TurnedAway}
 use Rattle.realm_model.specs.Reading.{numbered, opened_in, out_noted, resume_noted, room_noted, seen_noted, slot_noted, with_reply}
 use Rattle.realm_model.proofs.OtherEntries.{new_call_noted}
 

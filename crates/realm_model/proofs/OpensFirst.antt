@@ -26,7 +26,9 @@ use Rattle.group_model.specs.Read.{invoke_event}
 use Rattle.group_model.specs.declared.group_event.GroupEvent.{GroupEvent}
 use Rattle.group_model.specs.declared.group_event.GroupEvent.TheVariants.{Back, Cancel, Close, Invoke, Open, Out, Room, Seen}
 use Rattle.realm_model.specs.Realm.{OneSession}
-use Rattle.realm_model.specs.Reading.{Comes, Logged, Notes, RealmEvent, TurnedAway, event_noted, event_of, noted_from}
+use Rattle.realm_model.specs.Reading.{Logged, Notes, event_noted, event_of, noted_from}
+use Rattle.realm_model.specs.declared.realm_event.RealmEvent.{RealmEvent}
+use Rattle.realm_model.specs.declared.realm_event.RealmEvent.TheVariants.{Comes, TurnedAway}
 use Rattle.realm_model.specs.Reading.{settled_event, settled_event_in, with_event}
 use Rattle.realm_model.specs.Forgetting.{own_event_of, own_part}
 use Rattle.realm_model.proofs.Along.{goes_from}

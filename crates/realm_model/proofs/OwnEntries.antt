@@ -14,7 +14,8 @@ use Rattle.kernel_model.specs.NewCall as new
 use Rattle.kernel_model.proofs.SoundNewCalls.{waiting_taken}
 use Rattle.job_model.specs.Point.{no_params}
 use Rattle.group_model.specs.Group.{Group}
-use Rattle.realm_model.specs.Reading.{Comes, Notes, event_noted, event_of, numbered, sessions_with, with_event}
+use Rattle.realm_model.specs.Reading.{Notes, event_noted, event_of, numbered, sessions_with, with_event}
+use Rattle.realm_model.specs.declared.realm_event.RealmEvent.TheVariants.{Comes}
 use Rattle.group_model.specs.declared.group_event.GroupEvent.{GroupEvent}
 use Rattle.group_model.proofs.MoreSteps.{one_step}
 use Rattle.realm_model.specs.Laws.{About, ComesAs, GoesAlong, OwnCallsKeepTied}

@@ -35,7 +35,8 @@ use Rattle.own_model.specs.declared.own_reply.OwnReply.TheVariants as reply
 use Rattle.group_model.specs.Group.{Answered, Going, Group, GroupCall, GroupWaiter, asks, going_in, goes_out, goes_out_in}
 use Rattle.group_model.specs.Group.{opened_by, plain, with_call}
 use Rattle.realm_model.specs.Realm.{Realm}
-use Rattle.realm_model.specs.Reading.{Comes, Notes, exit_noted, opened_in, out_noted, with_reply}
+use Rattle.realm_model.specs.Reading.{Notes, exit_noted, opened_in, out_noted, with_reply}
+use Rattle.realm_model.specs.declared.realm_event.RealmEvent.TheVariants.{Comes}
 use Rattle.group_model.specs.declared.group_event.GroupEvent.TheVariants.{Out}
 use Rattle.group_model.specs.declared.group_reply.GroupReply.{GroupReply}
 use Rattle.group_model.specs.InOrder.{Fits, IsIn, IsInOrder}

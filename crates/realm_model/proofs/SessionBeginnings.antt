@@ -17,7 +17,9 @@ use Rattle.group_model.specs.declared.group_event.GroupEvent.{GroupEvent}
 use Rattle.group_model.specs.declared.group_reply.GroupReply.{GroupReply}
 use Rattle.realm_model.specs.Forgetting.{forgotten, own_logged}
 use Rattle.realm_model.specs.Histories.{first_happened}
-use Rattle.realm_model.specs.Reading.{Comes, Logged, RealmEvent, TurnedAway, noted}
+use Rattle.realm_model.specs.Reading.{Logged, noted}
+use Rattle.realm_model.specs.declared.realm_event.RealmEvent.{RealmEvent}
+use Rattle.realm_model.specs.declared.realm_event.RealmEvent.TheVariants.{Comes, TurnedAway}
 use Rattle.realm_model.specs.Realm.{OneSession}
 use Rattle.realm_model.proofs.Beginnings.{first_more, same_beginnings as same_of_realms, second_more}
 use Rattle.realm_model.proofs.SessionEvents.{Fits, session_log_fits}

@@ -30,7 +30,9 @@ use Rattle.group_model.specs.declared.group_event.GroupEvent.{GroupEvent}
 use Rattle.group_model.specs.declared.group_event.GroupEvent.TheVariants.{Close, Out}
 use Rattle.group_model.specs.declared.group_reply.GroupReply.{GroupReply}
 use Rattle.realm_model.specs.Realm.{OneSession, open_of}
-use Rattle.realm_model.specs.Reading.{machine_event, RealmEvent, TurnedAway, Comes, Logged, Notes, Watched, back_noted, entry_noted, event_noted}
+use Rattle.realm_model.specs.Reading.{machine_event, Logged, Notes, Watched, back_noted, entry_noted, event_noted}
+use Rattle.realm_model.specs.declared.realm_event.RealmEvent.{RealmEvent}
+use Rattle.realm_model.specs.declared.realm_event.RealmEvent.TheVariants.{TurnedAway, Comes}
 use Rattle.realm_model.specs.Reading.{event_of, exit_noted, noted, noted_from, numbered, of_machine, opened_in}
 use Rattle.realm_model.specs.Reading.{out_noted, resume_noted, seen_noted, sessions_with, settled_event}
 use Rattle.realm_model.specs.Reading.{settled_event_in, slot_noted, with_event, with_reply}

@@ -19,7 +19,9 @@ use Rattle.group_model.specs.Embedding.{replies_as, reply_as}
 use Rattle.group_model.specs.declared.group_event.GroupEvent.{GroupEvent}
 use Rattle.group_model.specs.declared.group_event.GroupEvent.TheVariants.{Back, Cancel, Close, Invoke, Open, Out, Room, Seen}
 use Rattle.group_model.specs.declared.group_reply.GroupReply.{GroupReply}
-use Rattle.realm_model.specs.Reading.{Comes, Logged, RealmEvent, TurnedAway, machine_event, of_machine}
+use Rattle.realm_model.specs.Reading.{Logged, machine_event, of_machine}
+use Rattle.realm_model.specs.declared.realm_event.RealmEvent.{RealmEvent}
+use Rattle.realm_model.specs.declared.realm_event.RealmEvent.TheVariants.{Comes, TurnedAway}
 use Rattle.realm_model.specs.Forgetting.{own_event_of, own_logged}
 use Rattle.realm_model.proofs.SessionEvents.{Fits, IsTheSame, IsToldSo}
 

@@ -32,7 +32,8 @@ use Rattle.group_model.specs.declared.group_event.GroupEvent.{GroupEvent}
 use Rattle.group_model.specs.declared.group_event.GroupEvent.TheVariants.{Back, Cancel, Close, Invoke, Open, Out, Room, Seen}
 use Rattle.group_model.specs.declared.group_reply.GroupReply.{GroupReply}
 use Rattle.realm_model.specs.Realm.{OneSession, open_of}
-use Rattle.realm_model.specs.Reading.{Comes, Logged, Notes, TurnedAway, back_noted}
+use Rattle.realm_model.specs.Reading.{Logged, Notes, back_noted}
+use Rattle.realm_model.specs.declared.realm_event.RealmEvent.TheVariants.{Comes, TurnedAway}
 use Rattle.realm_model.specs.Reading.{entry_noted, errand_noted, event_noted, event_of, exit_noted}
 use Rattle.realm_model.specs.Reading.{noted, noted_from, numbered, out_noted, resume_noted, seen_noted, sessions_with}
 use Rattle.realm_model.specs.Reading.{settled_event, settled_event_in, slot_noted, uuid_by, with_event, with_reply}

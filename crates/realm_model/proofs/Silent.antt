@@ -3,7 +3,8 @@ use Rattle.std.proofs.Common.{◌≡◌, List, [], ◌∷◌, ◌++◌, Option, 
 use Rattle.std.specs.Prelude.{map}
 use Rattle.std.specs.Option.{option_map, option_and_then}
 use Rattle.group_model.specs.Group.{Answered, Group, and_reply, run, silent, step}
-use Rattle.realm_model.specs.Reading.{Comes, Logged}
+use Rattle.realm_model.specs.Reading.{Logged}
+use Rattle.realm_model.specs.declared.realm_event.RealmEvent.TheVariants.{Comes}
 use Rattle.group_model.specs.declared.group_event.GroupEvent.{GroupEvent}
 use Rattle.realm_model.specs.Laws.{About, events_in, replies_in}
 use Rattle.group_model.proofs.MoreSteps.{Ended, behind}

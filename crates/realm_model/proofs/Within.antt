@@ -34,7 +34,9 @@ use Rattle.group_model.specs.declared.group_event.GroupEvent.TheVariants.{Open, 
 use Rattle.group_model.specs.declared.group_reply.GroupReply.{GroupReply}
 use Rattle.realm_model.specs.Histories.{AllWithin, DidAtMost, IsReady, IsWithin}
 use Rattle.realm_model.specs.Laws.{About, AreTied, events_in}
-use Rattle.realm_model.specs.Reading.{Comes, Logged, Notes, RealmEvent, TurnedAway, Watched, back_noted, entry_noted, event_noted, event_of}
+use Rattle.realm_model.specs.Reading.{Logged, Notes, Watched, back_noted, entry_noted, event_noted, event_of}
+use Rattle.realm_model.specs.declared.realm_event.RealmEvent.{RealmEvent}
+use Rattle.realm_model.specs.declared.realm_event.RealmEvent.TheVariants.{Comes, TurnedAway}
 use Rattle.realm_model.specs.Reading.{exit_noted, fixed_noted, number_of, numbered, opened_in, out_noted, resume_noted, room_noted, seen_noted}
 use Rattle.realm_model.specs.Reading.{sessions_with, settled_event, settled_event_in, slot_noted, with_event, with_reply}
 use Rattle.realm_model.specs.Realm.{AllSessions, OneSession, Realm, client_of, open_of, room_of}

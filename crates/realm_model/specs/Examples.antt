@@ -17,7 +17,9 @@ use Rattle.group_model.specs.Group.{group_machine_replies}
 use Rattle.group_model.specs.declared.group_event.GroupEvent.TheVariants.{Invoke, Open, Out}
 use Rattle.group_model.specs.declared.group_reply.GroupReply.{GroupReply}
 use Rattle.realm_model.specs.Realm.{OneSession}
-use Rattle.realm_model.specs.Reading.{Comes as Happens, RealmEvent, happened, realm_events, realm_replies}
+use Rattle.realm_model.specs.Reading.{happened, realm_events, realm_replies}
+use Rattle.realm_model.specs.declared.realm_event.RealmEvent.{RealmEvent}
+use Rattle.realm_model.specs.declared.realm_event.RealmEvent.TheVariants.{Comes as Happens}
 
 -- the session as a realm by moves from the boot on: what happens to it, what it is answered, and what the machine of a group
 -- of its application answers

@@ -17,7 +17,9 @@ use Rattle.group_model.specs.declared.group_event.GroupEvent.TheVariants.{Open, 
 use Rattle.group_model.specs.declared.group_event.GroupEvent.TheVariants.{Out}
 use Rattle.group_model.specs.declared.group_reply.GroupReply.{GroupReply}
 use Rattle.realm_model.specs.Realm.{AllSessions, OneSession}
-use Rattle.realm_model.specs.Reading.{Comes, Logged, Notes, RealmEvent, TurnedAway, happened, noted, of_machine}
+use Rattle.realm_model.specs.Reading.{Logged, Notes, happened, noted, of_machine}
+use Rattle.realm_model.specs.declared.realm_event.RealmEvent.{RealmEvent}
+use Rattle.realm_model.specs.declared.realm_event.RealmEvent.TheVariants.{Comes, TurnedAway}
 use Rattle.realm_model.specs.Reading.{realm_events, realm_replies}
 
 -- ---- a session's

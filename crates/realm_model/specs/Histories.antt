@@ -21,7 +21,8 @@ use Rattle.group_model.specs.declared.group_event.GroupEvent.{GroupEvent}
 use Rattle.group_model.specs.declared.group_event.GroupEvent.TheVariants.{Open, Invoke, Close, Cancel, Seen, Room, Back, Out}
 use Rattle.group_model.specs.declared.group_reply.GroupReply.{GroupReply}
 use Rattle.realm_model.specs.Realm.{AllSessions, OneSession, Realm}
-use Rattle.realm_model.specs.Reading.{Logged, Notes, RealmEvent, event_of, noted, number_of, realm_events, realm_replies}
+use Rattle.realm_model.specs.Reading.{Logged, Notes, event_of, noted, number_of, realm_events, realm_replies}
+use Rattle.realm_model.specs.declared.realm_event.RealmEvent.{RealmEvent}
 use Rattle.realm_model.specs.Laws.{About, AreFitting, ComesAs, GoesAlongWith, IsRealm}
 
 -- ---- each event

@@ -31,12 +31,9 @@ use Rattle.group_model.specs.declared.group_event.GroupEvent.{GroupEvent}
 use Rattle.group_model.specs.declared.group_event.GroupEvent.TheVariants.{Open, Invoke, Close, Cancel, Seen, Room, Back}
 use Rattle.group_model.specs.declared.group_event.GroupEvent.TheVariants.{Out}
 use Rattle.group_model.specs.declared.group_reply.GroupReply.{GroupReply}
+use Rattle.realm_model.specs.declared.realm_event.RealmEvent.{RealmEvent}
+use Rattle.realm_model.specs.declared.realm_event.RealmEvent.TheVariants.{Comes, TurnedAway}
 use Rattle.realm_model.specs.Realm.{Realm, client_of, number_in, open_of, room_of, settled_open_of}
-
--- what happens to a realm: an event of its machine, or that a new call of its client found no thread, which is none
-pub data RealmEvent : Type 0 where
-  Comes : (came : GroupEvent) → RealmEvent
-  TurnedAway : RealmEvent
 
 -- one with its reply, if it has one
 abbrev pub Logged : Type 0

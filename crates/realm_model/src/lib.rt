@@ -39,6 +39,7 @@
 mod group_laws;
 mod histories;
 mod one_law;
+mod realm_event;
 mod realms;
 mod session_laws;
 mod ties;
@@ -56,6 +57,7 @@ pub use one_law::{
     calls_are_in_realms, each_kept_session_has_a_realm, kept_sessions_have_realms,
     own_events_can_come, realms_are_answered_as_alone, same_realm_events_get_same_replies,
 };
+pub use realm_event::RealmEvent;
 pub use realms::{
     groups_are_realms, session_events_are_realms, sessions_are_realms, worked_examples,
 };
