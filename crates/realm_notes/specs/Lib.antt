@@ -1,0 +1,10 @@
+pub mod Arriving
+pub mod Calls
+pub mod Journals
+pub mod Meaning
+pub mod Noted
+pub mod Numbers
+pub mod Reading
+pub mod Realms
+pub mod Replaying
+pub mod Telling
