@@ -1,5 +1,7 @@
 pub mod Comparisons
-pub mod ReadBoth
-pub mod SessionReading
-pub mod GroupReading
+pub mod GroupTold
 pub mod Logs
+pub mod ReadBoth
+pub mod RealmReading
+pub mod SessionTold
+pub mod Told

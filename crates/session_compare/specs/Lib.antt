@@ -2,6 +2,5 @@ pub mod Pairs
 pub mod Logs
 pub mod Comparisons
 pub mod Reading
-pub mod Sessions
-pub mod Groups
+pub mod Realms
 pub mod Examples

@@ -4,9 +4,10 @@
 //! Each journal is done again once, which checks it and reads the log of the session or of the group off it. The two
 //! logs are compared as they are read, and of both only what the other lacks is kept.
 //!
-//! `comparing` has the calls, `reading` reads both journals, whosever logs they are, `sessions` and `groups` say whose,
+//! `comparing` has the calls, `reading` reads both journals, whosever logs they are, `realms` by the reader of `realm_notes`,
+//! `sessions` and `groups` say whose,
 //! `differing` compares the logs, `apart` says what the two applications alone show, and `illegal` what is told of
-//! journals that can't be. `same_events`, `same_group_events`, `same_inputs`, `same_params` and `same_apps` say when
+//! journals that can't be. `same_events`, `same_inputs`, `same_params` and `same_apps` say when
 //! two events, what came with them, parameters and applications are the same.
 //!
 //! It touches the RAM of the cores on which the journals are done again, and no port and no thread.
@@ -20,8 +21,9 @@
 //! - The first journal is done again once more where the second can't be. Where a boot has no application of the
 //!   group's UUID, both are checked.
 //! - Both logs are compared as they are read, and only what one log has more than the other is kept (`Compares`). That
-//!   is proved once, for whatever reads a log off a journal (`ReadsLog`), as the readers of a session and of a group
-//!   do.
+//!   is proved once, for whatever reads a log off a journal (`ReadsLog`), as the reader of a realm does. What happened to a
+//!   session or a group stands there event by event, so that both logs differ where those of the session or the group do
+//!   (`Told`).
 //! - Events, applications and images are compared field by field, and the functions that do so say that they are the
 //!   same exactly where they are equal.
 //! - At Same the replies are equal in both, by the law of `compare_model` (`same_replies`).
@@ -34,9 +36,9 @@ mod examples;
 mod groups;
 mod illegal;
 mod reading;
+mod realms;
 mod same_apps;
 mod same_events;
-mod same_group_events;
 mod same_inputs;
 mod same_params;
 mod sessions;

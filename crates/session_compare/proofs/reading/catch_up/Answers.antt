@@ -1,5 +1,5 @@
 -- The second journal is read event by event.
-use Rattle.std.proofs.Common.{◌+◌, ◌++◌, List, Option, arith, subst, sym}
+use Rattle.std.proofs.Common.{◌++◌, List, Option, arith, subst, sym}
 use Rattle.session_compare.proofs.Comparisons.{compares_back, compares_on}
 use Rattle.session_compare.proofs.ReadBoth.{few_with_next, illegal_here, read_on}
 use Rattle.session_compare.specs.Comparisons.{Compares}

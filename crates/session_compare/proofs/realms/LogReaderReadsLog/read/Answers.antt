@@ -1,5 +1,5 @@
-use Rattle.session_compare.proofs.SessionReading.{read_so}
-use Rattle.session_compare.proofs.sessions.LogReaderReadsLog.read.Goals as goal
+use Rattle.session_compare.proofs.RealmReading.{read_so}
+use Rattle.session_compare.proofs.realms.LogReaderReadsLog.read.Goals as goal
 
 pub reads-requires-clause-reading : goal.reads-requires-clause-reading
 reads-requires-clause-reading c = c.requires.fits
