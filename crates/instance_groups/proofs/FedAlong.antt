@@ -13,10 +13,10 @@ use Rattle.group_model.specs.declared.group_event.GroupEvent.{GroupEvent}
 use Rattle.group_model.specs.declared.group_event.GroupEvent.TheVariants.{Open, Invoke, Close, Cancel, Seen, Room, Back, Out}
 use Rattle.group_model.specs.declared.group_reply.GroupReply.{GroupReply}
 use Rattle.group_solo.specs.Feeding.{CanBeFed, IsFine}
-use Rattle.instance_groups.proofs.CallsRead.{group_calls_read}
+use Rattle.instance_groups.proofs.GroupLogs.{group_calls_read}
 use Rattle.instance_groups.specs.Journals.{IsSharedApp, group_events_of, group_replies_of}
 use Rattle.isolation.proofs.FedAlong.{has_room}
-use Rattle.isolation.specs.Journals.{IsJournal}
+use Rattle.realm_notes.specs.Journals.{IsJournal}
 use Rattle.kernel_model.proofs.Parts.{option_map_some}
 use Rattle.kernel_model.proofs.SoundMemory.{own_uuid}
 use Rattle.kernel_model.specs.Application.{Application, Booted}

@@ -3,18 +3,19 @@ ghost use Rattle.std.specs.Prelude.{◌≡◌, IfOk, Some};
 ghost use Rattle.group_model.specs.Group.{group_machine_replies, nobody_there};
 ghost use Rattle.group_solo.specs.Feeding.{CanBeFed};
 ghost use Rattle.instance_groups.specs.Journals.{IsLogOf, IsSharedApp, group_events_of, group_replies_of};
-ghost use Rattle.isolation.specs.Journals.{IsJournal};
+ghost use Rattle.realm_notes.specs.Journals.{IsJournal};
 ghost use Rattle.kernel_model.specs.Application.{Application, booted};
 ghost use Rattle.native_tas.specs.Table.{entries};
 ghost use Rattle.own_model.specs.Isolation.{steps_in};
 
 use crate::group_log::GroupLog;
-use crate::log_reader::LogReader;
+use crate::machine_log::machine_log_of;
 use base::NoMemory;
 use event_journal::Journal;
 use group_model::{GroupEvent, GroupReply};
-use journal_notes::{events_in, read_all, replies_in};
+use journal_notes::{events_in, replies_in};
 use native_tas::Natives;
+use realm_notes::LogReader;
 use std::alloc::Global;
 use ta_isa::Boot;
 use uuid::Uuid;
@@ -32,15 +33,13 @@ pub fn read_group_log(
     requires { IsJournal (booted boot.now (entries natives.now)) journal.now.events }
     ensures { IfOk result (IsLogOf (booted boot.now (entries natives.now)) journal.now.events uuid) }
 {
-    let made = LogReader::new(alloc, boot, natives, uuid)?;
+    let made = LogReader::of_sessions(alloc, boot, natives, uuid)?;
     match made {
         Some(mut reader) => {
-            let events = journal.as_slice();
-            let entries = read_all(alloc, &mut reader.replay, &mut reader.notes, events)?;
-            Ok(GroupLog {
-                app: Some(reader.into_app()),
-                entries,
-            })
+            let log = reader.reads_all(alloc, journal.as_slice())?;
+            let app = reader.into_app()?;
+            let entries = machine_log_of(alloc, log)?;
+            Ok(GroupLog { app, entries })
         }
         None => Ok(GroupLog {
             app: None,

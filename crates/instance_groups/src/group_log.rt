@@ -4,9 +4,6 @@ use kernel_state::Application;
 /// An event of a group, with its reply, if it has one.
 pub type Logged = journal_notes::Logged<GroupEvent, GroupReply>;
 
-/// An event with its reply, if it has one, each of both on the heap.
-pub type BoxedEntry = journal_notes::BoxedEntry<GroupEvent, GroupReply>;
-
 /// What happened to the sessions of an application, and what they were answered.
 #[derive(Drop)]
 pub struct GroupLog {
