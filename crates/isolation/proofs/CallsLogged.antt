@@ -3,47 +3,25 @@ use Rattle.std.proofs.Common.{◌≡◌, ℕ, ◌+◌, ◌*◌, ◌<◌, ◌≤�
 use Rattle.std.proofs.Common.{arith}
 use Rattle.std.specs.Prelude.{IsSome}
 use Rattle.std.specs.Option.{option_and_then}
-use Rattle.std.proofs.lemmas.List.{append-nil, append_assoc}
-use Rattle.std.proofs.lemmas.Option.{option_and_then_some}
+use Rattle.std.proofs.lemmas.List.{append_assoc}
 use Rattle.base.proofs.MapLemmas.{All-get}
 use Rattle.event_journal.specs.declared.event.Event.{Event}
 use Rattle.isolation.specs.Logs.{HasCall, IsLogOf, LogsHaveTheirCalls}
 use Rattle.isolation.specs.declared.session_log.OwnLog.{OwnLog}
 use Rattle.kernel_model.specs.Application.{Application, Booted}
-use Rattle.kernel_model.specs.History.{after_event, after_events, kernel_after}
+use Rattle.kernel_model.specs.History.{after_events, kernel_after}
 use Rattle.kernel_model.specs.Instances.{app_of}
 use Rattle.kernel_model.specs.Kernel.{Kernel, PendingCall, first_kernel}
 use Rattle.kernel_model.specs.SoundNumbers.{IsNumberedSession}
 use Rattle.kernel_model.proofs.Parts.{some_of}
 use Rattle.kernel_model.proofs.Past.{after_events-append}
 use Rattle.kernel_model.proofs.SoundNumbers.{numbered}
-use Rattle.own_model.proofs.WholeHistories.{goes_from, one_more, uuid_on}
+use Rattle.own_model.proofs.WholeHistories.{one_more, uuid_on}
 use Rattle.own_model.specs.Isolation.{BringsCall, IsSessionOf}
-use Rattle.own_model.specs.Own.{Logged, Notes, event_noted, no_notes, noted, noted_from}
-use Rattle.isolation.proofs.LogsGrow.{event_adds}
+use Rattle.own_model.specs.Own.{Logged, Notes, no_notes, noted, noted_from}
+use Rattle.isolation.proofs.SessionLogs.{own_log_goes_on}
 use Rattle.realm_model.proofs.SessionCalls.{calls_in_logs}
 use Rattle.realm_model.proofs.SessionsKnown.{noted-append}
-
--- what is noted later stands behind
-grows_by : (session : ℕ) (kernel next : Kernel) (notes : Notes) (event : Event)
-    → (more : List Logged) × ((event_noted session kernel next notes event).log ≡ notes.log ++ more)
-grows_by session kernel next notes event =
-    let adds = event_adds notes session kernel next event in
-    (adds.more, ap (λ (n : Notes). n.log) (adds.so notes.log))
-
-grows_on : (boot : Booted) (session : ℕ) (kernel last : Kernel) (notes : Notes) (events : List Event)
-    → after_events boot kernel events ≡ Some last
-    → (more : List Logged) × ((noted_from boot session kernel notes events).log ≡ notes.log ++ more)
-grows_on boot session kernel last notes [] e = ([], sym (append-nil notes.log))
-grows_on boot session kernel last notes (event ∷ events) e =
-    option_and_then_some (λ (next : Kernel). after_events boot next events) (after_event boot kernel event) last e
-    (λ (next : Kernel) comes onward.
-    let first = grows_by session kernel next notes event in
-    let rest = grows_on boot session next last (event_noted session kernel next notes event) events onward in (
-      first.0 ++ rest.0,
-      ap (λ (n : Notes). n.log) (goes_from boot session kernel next notes event events comes) ∙ rest.1
-          ∙ ap (λ (log : List Logged). log ++ rest.0) first.1 ∙ append_assoc notes.log first.0 rest.0,
-    ))
 
 module _ (boot : Booted) (before behind : List Event) (happened : Event) (call : PendingCall) (app : Application)
     (b : BringsCall boot before happened call) (of : IsSessionOf boot (before ++ happened ∷ behind) call.session app) where
@@ -93,13 +71,13 @@ module _ (boot : Booted) (before behind : List Event) (happened : Event) (call :
   has_call : (log : OwnLog) → IsLogOf boot (before ++ happened ∷ behind) call.session log → HasCall boot before call log
   has_call log its =
       let grows = calls_in_logs boot before happened call app b known in
-      let rest = grows_on boot call.session b.next onward.0 (noted boot now call.session) behind onward.1 in
+      let rest = own_log_goes_on boot call.session now behind b.next onward.0 there onward.1 in
       record {
         came = grows.came;
         is = grows.is;
         later = rest.0;
         entries =
-            its.entries ∙ ap (λ (n : Notes). n.log) (sym is_noted) ∙ rest.1
+            its.entries ∙ ap (λ (history : List Event). (noted boot history call.session).log) (sym cut) ∙ rest.1
             ∙ ap (λ (log : List Logged). log ++ rest.0) grows.last
             ∙ append_assoc (noted boot before call.session).log ((grows.came, None) ∷ []) rest.0;
       }

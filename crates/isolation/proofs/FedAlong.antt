@@ -9,7 +9,7 @@ use Rattle.base.specs.NumberMap.{get}
 use Rattle.base.specs.declared.no_memory.NoMemory.{NoMemory}
 use Rattle.event_journal.specs.Journal.{copied_bytes}
 use Rattle.event_journal.specs.declared.event.Event.{Event}
-use Rattle.isolation.proofs.CallsRead.{own_calls_read}
+use Rattle.isolation.proofs.SessionLogs.{own_calls_read}
 use Rattle.kernel_model.specs.Application.{Application, Booted}
 use Rattle.kernel_model.specs.Instances.{is_single}
 use Rattle.kernel_model.specs.Kernel.{Asks, CallPhase, Ends, Runs, Waits}

@@ -1,9 +1,2 @@
-pub mod Arriving
-pub mod Calls
-pub mod Journals
 pub mod Logs
-pub mod Meaning
-pub mod Noted
-pub mod Reading
-pub mod Replaying
-pub mod Telling
+pub use Rattle.realm_notes.specs.Journals

@@ -1,6 +1,6 @@
 //! What happened to a session, and what it was answered.
 ghost use Rattle.std.specs.Prelude.{◌≡◌, IfOk, Some};
-ghost use Rattle.isolation.specs.Journals.{IsJournal};
+ghost use Rattle.realm_notes.specs.Journals.{IsJournal};
 ghost use Rattle.isolation.specs.Logs.{IsLogOf};
 ghost use Rattle.kernel_model.specs.Application.{Application, booted};
 ghost use Rattle.native_tas.specs.Table.{entries};
@@ -9,13 +9,14 @@ ghost use Rattle.own_model.specs.Own.{own_events, own_replies};
 ghost use Rattle.own_model.specs.Solo.{solo_replies, unopened};
 ghost use Rattle.solo.specs.Feeding.{CanBeFed};
 
-use crate::log_reader::LogReader;
+use crate::forgetting::own_log_of;
 use crate::session_log::OwnLog;
 use base::NoMemory;
 use event_journal::Journal;
-use journal_notes::{events_in, read_all, replies_in};
+use journal_notes::{events_in, replies_in};
 use native_tas::Natives;
 use own_model::{OwnEvent, OwnReply};
+use realm_notes::LogReader;
 use std::alloc::Global;
 use ta_isa::Boot;
 
@@ -32,10 +33,10 @@ pub fn own_log(
     requires { IsJournal (booted boot.now (entries natives.now)) journal.now.events }
     ensures { IfOk result (IsLogOf (booted boot.now (entries natives.now)) journal.now.events session) }
 {
-    let mut reader = LogReader::new(alloc, boot, natives, session)?;
-    let events = journal.as_slice();
-    let entries = read_all(alloc, &mut reader.replay, &mut reader.notes, events)?;
-    let app = reader.app()?;
+    let mut reader = LogReader::of_session(alloc, boot, natives, session)?;
+    let log = reader.reads_all(alloc, journal.as_slice())?;
+    let app = reader.into_app()?;
+    let entries = own_log_of(alloc, log)?;
     Ok(OwnLog { app, entries })
 }
 

@@ -4,9 +4,6 @@ use own_model::{OwnEvent, OwnReply};
 /// An event of a session, with its reply, if it has one.
 pub type Logged = journal_notes::Logged<OwnEvent, OwnReply>;
 
-/// An event with its reply, if it has one, each of both on the heap.
-pub type BoxedEntry = journal_notes::BoxedEntry<OwnEvent, OwnReply>;
-
 /// What happened to a session, and what it was answered.
 #[derive(Drop)]
 pub struct OwnLog {

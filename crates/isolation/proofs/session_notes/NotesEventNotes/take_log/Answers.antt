@@ -1,7 +1,0 @@
-use Rattle.isolation.proofs.ReadOn.{has_taken}
-use Rattle.isolation.proofs.session_notes.NotesEventNotes.take_log.Goals as goal
-
-pub returns : goal.returns
-returns c old new before event goes is_noted session =
-    has_taken old new before c.args.self.now c.take_list.new.self event c.take_list.result.items goes is_noted session c.take_list.ensures.stays
-    c.take_list.ensures.taken c.take_list.ensures.log
