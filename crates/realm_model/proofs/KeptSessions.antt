@@ -1,4 +1,4 @@
--- Each session that the kernel keeps is a member of a realm, and keeps its number there.
+-- Each session that the kernel keeps on its instance is a member of a realm, and keeps its number there.
 use Rattle.std.proofs.Common.{◌≡◌, ℕ, suc, ◌+◌, ◌*◌, ◌≤◌, Bool, true, false, List, [], ◌∷◌, ◌++◌, length, Option, Some, None, refl}
 use Rattle.std.proofs.Common.{ap, subst, sym, ◌∙◌, arith}
 use Rattle.std.specs.Prelude.{IsSome, if◌then◌else◌, is_some, slice_get}

@@ -1,4 +1,4 @@
--- The machine of a group over the events of one session: what it answers is what the session was answered. Computed on the
+-- The machine of a group over the events of one session: what it answers is what the session was answered. Computed on
 -- worked histories of sessions.
 use Rattle.std.specs.Prelude.{◌≡◌, ℕ, false, true, List, [], ◌∷◌, ◌++◌, Option, Some, None, is_some}
 use Rattle.std.specs.Option.{option_map, option_and_then}
@@ -48,7 +48,7 @@ pub record Examples : Type 0 where
   pub replies : replies_of (boot 1 1 1 add) at_once 1
       ≡ Some (record { reply = reply.Ended 0 4 no_params; opened = Some 0 }
       ∷ record { reply = reply.Ended 0 4 (numbers 12 0); opened = None } ∷ [])
-  -- the machine agrees with each of the worked histories of sessions
+  -- the machine agrees with worked histories of sessions
   pub at_once_agrees : Agrees (boot 1 1 1 add) at_once 1
   pub stepwise : Agrees (boot 1 1 1 add) step_by_step 1
   pub woken_agrees : Agrees (boot 2 2 1 wait) woken 1

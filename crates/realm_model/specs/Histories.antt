@@ -93,8 +93,8 @@ AllWithin calls most app g (came ∷ events) =
     IsWithin calls most g came
     × ((answered : Answered) → step most app g came ≡ Some answered → AllWithin calls most app answered.0 events)
 
--- so its machine has taken no more calls than were noted in the end, at each event, and a call of it has done no more steps than
--- were granted in all
+-- so its machine has taken no more calls than were noted in the end, at each event, and a call of it that goes out, and runs
+-- then, has done no more than a million steps for each event of the history
 abbrev pub RealmsStayWithin : Type 0
 RealmsStayWithin = (boot : Booted) (history : List Event) (realm : Realm) (app : Application) →
     IsRealmOf boot history realm app →
@@ -139,7 +139,8 @@ pub record HasRealm (boot : Booted) (history : List Event) (session : ℕ) (app 
   pub is : IsRealmOf boot history realm app
   pub member : IsMember boot history realm session
 
--- after a legal history each session that the kernel keeps is a member of one, and whatever comes then, it keeps its number there
+-- after a legal history each session that the kernel keeps on its instance is a member of one, and whatever comes then, it
+-- keeps its number there
 pub record KeptSessionsHaveRealms : Type 0 where
   pub known : (boot : Booted) (history : List Event) (kernel : Kernel) (session : ℕ) (app : Application) →
       IsLegal boot history → kernel_after boot history ≡ Some kernel → IsKept boot kernel session app →

@@ -162,7 +162,7 @@ slot_noted w slot notes (Some (Suspended client before)) (Some (Active cpu now))
     option_map_or (resume_noted w slot before now notes) (get notes.numbering.in_slots slot) notes
 slot_noted w slot notes _ _ = notes
 
--- an answer that was fixed, where the realm has this session whose client is told of it
+-- an answer that was fixed, where it is noted for the client of this session
 abbrev pub fixed_noted : Entering → Notes → Answer → Option ℕ → Notes
 fixed_noted e notes answer None = notes
 fixed_noted e notes answer (Some session) =

@@ -1,5 +1,5 @@
 -- Those who share an instance: one session of an application whose sessions share none, or all sessions of an application
--- whose sessions share one. What differs between the two is said by the few functions of this file. This project's own.
+-- whose sessions share one. What differs in what is read of the two is said by the few functions of this file. This project's own.
 use Rattle.std.specs.Prelude.{ℕ, ◌==◌, Bool, false, Option, Some, None, is_some, if◌then◌else◌}
 use Rattle.base.specs.NumberMap.{NumberMap, get}
 use Rattle.ta_params.specs.declared.call_result.CallResult.{CallResult}
@@ -51,8 +51,8 @@ room_of (AllSessions app) boot tables call =
 
 -- ---- whose client is told that no thread was free
 
--- the session for whose client that is noted: of all sessions of an application it is noted for none, as nobody read whose
--- call it was
+-- the session for whose client that is noted: of all sessions of an application it is noted for none, as a group has no such
+-- event
 abbrev pub client_of : Realm → Option ℕ
 client_of (OneSession member) = Some member
 client_of (AllSessions app) = None

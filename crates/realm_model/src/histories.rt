@@ -8,25 +8,25 @@ pub fn realms_are_answered()
     ensures { AnsweredAsARealm }
 {}
 
-/// It answers within bounds: at each event it has taken no more calls than have come in by the end, and a call that goes out has
-/// done no more steps than were granted in all.
+/// It answers within bounds: at each event it has taken no more calls than have come in by the end, and a call that goes
+/// out, and runs then, has done no more than a million steps for each event of the history.
 pub fn realms_stay_within()
     ensures { RealmsStayWithin }
 {}
 
-/// So in two worlds: realms of one application to which the same has happened were answered the same, after any two legal
-/// histories of any two boots that have the same key.
+/// Realms of one application to which the same has happened were answered the same, after any two legal histories of any
+/// two boots that have the same key.
 pub fn same_events_of_realms_get_same_replies()
     ensures { SameRealmEventsSameReplies }
 {}
 
-/// And wherever the same has happened to them, not only in the end: they were answered the same so far, calls that found no
-/// thread too.
+/// As far as the same has happened first to two such realms, they were answered the same, calls that found no thread too.
 pub fn same_beginnings_of_realms_get_same_replies()
     ensures { SameRealmBeginningsSameReplies }
 {}
 
-/// Each session that the kernel keeps after a legal history is a member of such a realm, and keeps its number there.
+/// Each session that the kernel keeps on its instance after a legal history is a member of such a realm, and keeps its
+/// number there.
 pub fn kept_sessions_are_members()
     ensures { KeptSessionsHaveRealms }
 {}

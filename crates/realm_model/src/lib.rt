@@ -1,7 +1,7 @@
 //! A session or a group as a realm: those who share an instance, one reader of what happens to them, and one tie.
 //!
 //! The crate is one of definitions and laws. `specs/` reads in the order of its modules: `Realm` says who the members are, and
-//! all that differs between one session and all sessions of an application; `Reading` reads a realm's events and replies off
+//! all that differs in what is read of one session and of all sessions of an application; `Reading` reads a realm's events and replies off
 //! the kernels that a history goes through; `Forgetting` says what a session's and a group's readings are of it; `Tied` says
 //! when a kernel and the machine of a realm, which is that of a group, do the same next, by names of instances alone; `Laws`
 //! says what holds of the two at each event, and `Histories` what is answered in a whole history. `Examples` is computed.
@@ -13,8 +13,8 @@
 //! - What is noted of a session by any history is what is noted of its realm with the numbers of sessions forgotten
 //!   (`sessions_are_realms`), so that its events, told as those of a group, are the realm's (`session_events_are_realms`); and
 //!   what is noted of a group is what is noted of its realm (`groups_are_realms`).
-//! - On the worked histories of sessions the machine of a group answers to a session's events what the session was
-//!   answered (`worked_examples`).
+//! - On worked histories of sessions the machine of a group answers to a session's events what the session was answered
+//!   (`worked_examples`).
 //! - As a kernel boots it is tied to the machine of each realm (`boots_are_tied`); tied they stay by a fixed answer
 //!   (`fixed_answers_keep_realms`), by an exit, a resume or a new call that isn't the realm's
 //!   (`exits_of_others_keep_realms`, `resumes_of_others_keep_realms`, `calls_of_others_keep_realms`), by its new calls
@@ -23,8 +23,8 @@
 //! - In each legal history the machine of a realm, which has the realm's events alone, answers as the realm was answered
 //!   (`realms_are_answered`), within bounds of calls and steps (`realms_stay_within`); so two realms of one application to
 //!   which the same has happened were answered the same (`same_events_of_realms_get_same_replies`), in the end and at each
-//!   beginning (`same_beginnings_of_realms_get_same_replies`). Each session that the kernel keeps is a member of a realm,
-//!   and keeps its number there (`kept_sessions_are_members`).
+//!   beginning (`same_beginnings_of_realms_get_same_replies`). Each session that the kernel keeps on its instance is a
+//!   member of a realm, and keeps its number there (`kept_sessions_are_members`).
 //! - What `own_model` says of one session follows, in its own words: it is answered as its machine answers
 //!   (`sessions_are_answered_as_alone`), two to which the same has happened are answered and shown the same
 //!   (`same_events_get_same_replies`, `same_beginnings_get_same_replies`, `same_events_show_the_same`), which sessions this is

@@ -3,7 +3,8 @@
 ghost use Rattle.group_model.specs.OneLaw.{AnsweredAsARealm, CallsAreInRealms, EachKeptSessionHasARealm, KeptSessionsHaveRealms};
 ghost use Rattle.group_model.specs.OneLaw.{OwnEventsCanCome, SameRealmEventsSameReplies};
 
-/// What has happened to a session of a legal history could all come, one after the other.
+/// What has happened to a session of an application whose sessions share no instance, in a legal history, could all come,
+/// one after the other.
 pub fn own_events_can_come()
     ensures { OwnEventsCanCome }
 {}

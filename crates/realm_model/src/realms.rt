@@ -17,7 +17,7 @@ pub fn groups_are_realms()
     ensures { GroupsAreRealms }
 {}
 
-/// On the worked histories of sessions, the machine of a group answers to a session's events what the session was answered.
+/// On worked histories of sessions, the machine of a group answers to a session's events what the session was answered.
 pub fn worked_examples()
     ensures { Examples }
 {}

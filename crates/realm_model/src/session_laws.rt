@@ -33,8 +33,8 @@ pub fn pending_opens_are_known()
     ensures { PendingOpensAreKnown }
 {}
 
-/// Each new call of a session whose application's sessions share no instance, if it gets a slot, is the next event of the session's log, its open among them: so no call
-/// of the session that has got a slot is left out.
+/// Each new call of a session whose application's sessions share no instance, if it gets a slot, is the next event of the
+/// session's log, its open among them: so no call of the session that has got a slot is left out.
 pub fn calls_are_in_logs()
     ensures { CallsAreInLogs }
 {}

@@ -29,7 +29,7 @@ pub fn calls_of_others_keep_realms()
 {}
 
 /// So does a new call of the realm, whatever its tests come to: the machine does the same with its event. The open of one
-/// session comes first, and ties nobody before.
+/// session comes first, and each other call of it behind.
 pub fn own_calls_keep_realms()
     ensures { OwnCallsKeepTied }
 {}

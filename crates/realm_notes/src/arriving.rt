@@ -1,4 +1,4 @@
-//! What an entry is for a realm, as far as it can be told before it is done.
+//! What an entry is for a realm, by what was decided of it, before it is done.
 ghost use Rattle.std.specs.Prelude.{◌≡◌, ℕ, List, IfOk};
 ghost use Rattle.own_model.specs.Own.{input_of};
 ghost use Rattle.kernel_entry.specs.Entering.{IsPrepared, WasPrepared};

@@ -2,14 +2,14 @@
 //! core by one reader.
 //!
 //! The journal is done again: a core of the same boot lets the same processors in, each over RAM that has the bytes that its
-//! entry read, and lets them out again. What an entry and an exit are for the realm is read off that core, as the definitions of
-//! `realm_model` read it off the kernel, and noted.
+//! entry read, and lets them out again. What an entry is for the realm is read off what was decided of it, before it is done,
+//! and what an exit is off that core, as the definitions of `realm_model` read both off the kernel; and each is noted.
 //!
 //! | Module | What it has |
 //! |---|---|
 //! | `realm` | whose notes are taken, and all in which one session and all sessions differ |
 //! | `calls` | what a new call is, whoever's it is |
-//! | `arriving`, `coming` | what an entry is for the realm, as far as it can be told before it, and what is noted of it |
+//! | `arriving`, `coming` | what an entry is for the realm, by what was decided of it, and what is noted of it |
 //! | `leaving`, `going` | what is told of a call that goes out, and what is noted of that |
 //! | `numbering`, `sessions` | the numbers of a realm's calls, and of its sessions |
 //! | `notes`, `event_notes` | what is noted, and the notes as those that `journal_notes` takes |
