@@ -7,6 +7,7 @@ Each kind may stand once behind an item; `..` at the end leaves out what follows
 """
 
 import collections
+import os
 import re
 
 from tulgexar import arg, formats, plays
@@ -182,7 +183,7 @@ def differing_texts(wanted, came):
 
 def common_length(one, other):
     """How many words or characters two beginnings have in common."""
-    return next((at for at, pair in enumerate(zip(one, other)) if pair[0] != pair[1]), min(len(one), len(other)))
+    return len(os.path.commonprefix([one, other]))
 
 
 def name_of(word, place):
